@@ -1,0 +1,4 @@
+pub mod JoinLemmas
+pub mod NameLemmas
+pub mod PathLemmas
+pub mod ReadLemmas

@@ -1,0 +1,4 @@
+pub mod formers
+pub mod Faults
+pub mod Names
+pub mod Order
