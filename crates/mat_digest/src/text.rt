@@ -30,9 +30,10 @@ impl Model for DigestText {
 }
 
 impl DigestText {
-    /// The bytes of the text.
+    /// The bytes of the text. It takes no memory.
     pub fn bytes(&self) -> &[u8]
-        ensures { result.now ≡ self.now }
+        ensures text { result.now ≡ self.now }
+        ensures short { length result.now ≤ 85 }
     {
         &self.buffer[..self.len]
     }

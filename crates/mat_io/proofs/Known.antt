@@ -1,10 +1,10 @@
 -- From what std says of the bytes that a reader or a writer knows to what a source or a sink says.
-use Rattle.std.proofs.Common.{◌≡◌, ℕ, ◌+◌, ◌<◌, ◌≤◌, List, [], ◌∷◌, ◌++◌, length, take, drop, refl, sym, ap, ◌∙◌, arith, length-append, append_assoc, length-take, subst}
+use Rattle.std.proofs.Common.{◌≡◌, ℕ, ◌+◌, ◌≤◌, List, [], ◌++◌, length, take, drop, refl, sym, ap, ◌∙◌, arith, length-append, append_assoc, length-take, subst}
 use Rattle.std.proofs.Math.Seq.{take-add}
-use Rattle.std.specs.Prelude.{Option, Some, None, ⊤}
+use Rattle.std.specs.Prelude.{Option, Some, None}
 use Rattle.std.specs.Io.KnownBytes.{Appends, Consumes, IsAtEnd, Keeps}
 use Rattle.std.proofs.lemmas.List.{append-nil, drop-append-le, drop_all, take-append-le, take_all}
-use Rattle.mat_io.specs.Streams.{Grows, GrowsInPart, NoneLeft, Stays, TakesNext, Takes}
+use Rattle.mat_io.specs.Streams.{Grows, NoneLeft, Stays, TakesNext}
 
 -- bytes that are kept stay
 pub Stays-Keeps : (before after : Option (List ℕ)) → Keeps before after → Stays before after

@@ -1,5 +1,5 @@
 // A sink over a writer of std.
-ghost use Rattle.std.specs.Prelude.{◌≡◌};
+ghost use Rattle.std.specs.Prelude.{◌≡◌, ◌≢◌};
 ghost use Rattle.mat_io.specs.Answers.{put_failed};
 ghost use Rattle.mat_io.specs.Causes.{HasCause, faults_after};
 ghost use Rattle.mat_io.specs.Streams.{Writes};
@@ -32,7 +32,8 @@ impl<W: Write> Sink for StdSink<W> {
     ghost faults = { λ s. s.faults };
 
     /// Writes until the writer has taken all bytes. It fails, and counts one fault, where a write fails
-    /// or takes nothing; a write that is interrupted is made again, up to a thousand times.
+    /// or takes nothing; a write that is interrupted is made again, up to a thousand times. Where the
+    /// writer is refused memory, that is such a fault.
     fn write(&mut self, bytes: &[u8]) -> Put
         ensures bytes { Writes (⟦<StdSink<W> as Sink>⟧.out self.old) (⟦<StdSink<W> as Sink>⟧.out self.new)
             bytes.now result }
@@ -40,6 +41,7 @@ impl<W: Write> Sink for StdSink<W> {
             (put_failed result) }
         ensures count { ⟦<StdSink<W> as Sink>⟧.faults self.new
             ≡ faults_after (put_failed result) (⟦<StdSink<W> as Sink>⟧.faults self.old) }
+        ensures memory { result ≢ Put.NoMemory }
     {
         let mut at = 0;
         'pieces: while at < bytes.len() {

@@ -31,8 +31,8 @@ impl<R: Read> Source for StdSource<R> {
 
     ghost faults = { λ s. s.faults };
 
-    /// Takes what one read of the reader gives. It fails, and counts one fault, exactly where that read
-    /// fails; a read that is interrupted is made again, up to a thousand times.
+    /// Takes what one read of the reader gives. It fails, and counts one fault, where that read fails; a
+    /// read that is interrupted is made again, up to a thousand times.
     fn read(&mut self, buf: &mut [u8]) -> Got
         requires { 0 < length buf.old }
         ensures bytes { Reads (⟦<StdSource<R> as Source>⟧.left self.old) (⟦<StdSource<R> as Source>⟧.left self.new)

@@ -1,11 +1,11 @@
 -- What joining two lists of names rests on.
-use Rattle.std.proofs.Common.{◌≡◌, ℕ, ◌+◌, ◌<◌, ◌≤◌, Bool, true, false, ◌&&◌, leb, List, [], ◌∷◌, ◌++◌, length, Fits, w64, sum_by, refl, sym, ap, ap₂, ◌∙◌, arith, length-append}
+use Rattle.std.proofs.Common.{◌≡◌, ℕ, ◌+◌, ◌≤◌, Bool, true, false, ◌&&◌, leb, List, [], ◌∷◌, ◌++◌, length, Fits, w64, sum_by, refl, sym, ap, ap₂, ◌∙◌, arith, length-append}
 use Rattle.std.specs.List.{list_all}
 use Rattle.std.proofs.lemmas.Bool.{and_parts, leb-true, le-leb}
 use Rattle.std.proofs.lemmas.Bool.Decides.{nat_tests}
 use Rattle.std.proofs.lemmas.List.Folds.{list_all-append}
 use Rattle.std.proofs.lemmas.List.Sums.{sum_by-cons, sum_by-append}
-use Rattle.mat_path.specs.Names.{slot, is_name, joined, is_rel, is_path}
+use Rattle.mat_path.specs.Names.{slot, is_name, joined, is_rel}
 
 -- with a slash behind it too, the text of names is as long as their slots
 slots_are : (name : List ℕ) (names : List (List ℕ)) → length (joined (name ∷ names)) + 1 ≡ sum_by slot (name ∷ names)

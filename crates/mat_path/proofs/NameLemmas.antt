@@ -1,15 +1,15 @@
 -- What reading one name or a target rests on.
-use Rattle.std.proofs.Common.{◌≡◌, ℕ, zero, suc, ◌+◌, ◌<◌, ◌≤◌, Bool, true, false, cond, not, ◌&&◌, ◌||◌, if◌then◌else◌, eqb, ltb, leb, nat_eq, List, [], ◌∷◌, length, get_or, drop, Option, Some, None, is_none, option_and_then, option_map, position, refl, sym, ap, ap₂, ◌∙◌, subst, arith, drop-cons}
+use Rattle.std.proofs.Common.{◌≡◌, ℕ, zero, suc, ◌+◌, ◌<◌, ◌≤◌, Bool, true, false, cond, not, ◌&&◌, ◌||◌, if◌then◌else◌, ltb, nat_eq, List, [], ◌∷◌, length, get_or, drop, Option, Some, None, is_none, option_and_then, option_map, position, refl, sym, ap, ap₂, ◌∙◌, subst, arith, drop-cons}
 use Rattle.std.proofs.Math.Dec.{eqb-suc-zero}
 use Rattle.std.specs.Option.{option_or}
-use Rattle.std.specs.List.{list_all, prefix_len, position_or_len}
-use Rattle.std.proofs.lemmas.Bool.{le-leb, lt-ltb, ltb-true, cases_Bool}
+use Rattle.std.specs.List.{list_all, position_or_len}
+use Rattle.std.proofs.lemmas.Bool.{le-leb, lt-ltb, ltb-true}
 use Rattle.std.proofs.lemmas.Bool.Decides.{nat_tests}
 use Rattle.std.proofs.lemmas.List.{drop_all}
 use Rattle.mat_path.specs.declared.path.PathRefusal.{PathRefusal}
 use Rattle.mat_path.specs.declared.path.PathRefusal.TheVariants as why
 use Rattle.mat_path.specs.Names.{is_text_byte, is_name_byte, is_name, is_dots, is_target}
-use Rattle.mat_path.specs.Faults.{name_fault, name_fault_at, first_answer, first_name_fault, name_refusal, target_refusal, of_text}
+use Rattle.mat_path.specs.Faults.{name_fault_at, first_answer, first_name_fault, name_refusal, target_refusal, of_text}
 use Rattle.mat_path.proofs.ReadLemmas.{answers_of_text, not_above}
 
 -- a refusal of a name isn't want of memory

@@ -1,18 +1,19 @@
 -- What reading a text rests on: cutting at slashes, and what the faults of a text tell of its names.
-use Rattle.std.proofs.Common.{◌≡◌, ℕ, zero, suc, ◌+◌, ◌<◌, ◌≤◌, Bool, true, false, cond, not, ◌&&◌, ◌||◌, if◌then◌else◌, eqb, ltb, leb, List, [], ◌∷◌, ◌++◌, length, get_or, take, drop, Option, Some, None, is_none, is_some, IfOk, All, position, refl, sym, ap, ◌∙◌, subst, inl, inr, arith, add-one, take_all, drop-cons, le_trans, sub-one, ap₂, count_by, option_and_then, nat_eq, OnSome, append_assoc}
+use Rattle.std.proofs.Common.{◌≡◌, ℕ, zero, suc, ◌+◌, ◌<◌, ◌≤◌, Bool, true, false, cond, not, ◌&&◌, ◌||◌, if◌then◌else◌, eqb, ltb, leb, List, [], ◌∷◌, ◌++◌, length, get_or, take, drop, Option, Some, None, is_none, is_some, All, position, refl, sym, ap, ◌∙◌, subst, inl, inr, arith, take_all, drop-cons, le_trans, sub-one, ap₂, count_by, option_and_then, nat_eq, OnSome, append_assoc}
 use Rattle.std.proofs.Math.Dec.{eqb-suc-zero}
 use Rattle.std.specs.Option.{option_or}
-use Rattle.std.specs.List.{list_all, slice_split, onto_first, join_with_byte, position_or_len, before_first, prefix_len, after_first, AllPass}
-use Rattle.std.proofs.lemmas.Bool.{cases_order, cases_Bool, both_ways, ltb-true, ltb-false, le-leb, eqb-true, and_parts, not-true, false≢true}
+use Rattle.std.specs.List.{list_all, onto_first, position_or_len, before_first}
+use Rattle.std.proofs.lemmas.Bool.{cases_order, cases_Bool, both_ways, and_from, false_from_ne_true, ltb-true, ltb-false, le-leb, eqb-true, and_parts, not-true, false≢true}
 use Rattle.std.proofs.lemmas.Bool.Decides.{nat_tests}
 use Rattle.std.proofs.lemmas.Option.{cond_some, none-some}
-use Rattle.std.proofs.lemmas.List.Sums.{take_while-cons, fails_before_first, prefix_len-le-length, AllPass-from_list_all}
+use Rattle.std.proofs.lemmas.List.Sums.{take_while-cons, fails_before_first, AllPass-from_list_all}
 use Rattle.std.proofs.lemmas.List.{take_more, drop_all}
+use Rattle.std.proofs.lemmas.Slice.Eq.{bytes_eq-Decides}
 use Rattle.std.proofs.lemmas.List.Splits.{slice_split_first, slice_split_none, slice_split_at, slice_split-cons_no, length-slice_split, join_with_byte-slice_split}
 use Rattle.mat_path.specs.declared.path.PathRefusal.{PathRefusal}
 use Rattle.mat_path.specs.declared.path.PathRefusal.TheVariants as why
-use Rattle.mat_path.specs.Names.{is_text_byte, is_name_byte, is_name, is_dots, joined, is_rel, is_path, pieces, path_of}
-use Rattle.mat_path.specs.Faults.{is_stray, first_piece, name_fault, fault_here, begins_at, fault_at, first_answer, first_fault, refusal_of, of_text}
+use Rattle.mat_path.specs.Names.{is_text_byte, is_name_byte, is_name, is_dots, joined, is_rel, is_path, pieces, same_name, rel_of, rel_text, path_of}
+use Rattle.mat_path.specs.Faults.{is_stray, first_piece, fault_here, begins_at, fault_at, first_answer, first_fault, refusal_of, rel_refusal, of_text}
 
 abbrev slashes : ℕ → Bool
 slashes = λ b. eqb b 47
@@ -75,9 +76,14 @@ first_answer_found f at (suc n) x none here below = elim (cases_order at n) [
   | inr (inr more) ↦ absurd (omega arith)
 ]
 
--- none so far and none here
-pub first_answer_more : (f : ℕ → Option PathRefusal) (n : ℕ) → first_answer f n ≡ None → f n ≡ None → first_answer f (n + 1) ≡ None
-first_answer_more f n before here = rw add-one (ap₂ option_or before here)
+-- none where there is none below
+first_answer_none : (f : ℕ → Option PathRefusal) (n : ℕ) → ((k : ℕ) → k < n → f k ≡ None) → first_answer f n ≡ None
+first_answer_none f zero h = refl
+first_answer_none f (suc n) h = ap₂ option_or (first_answer_none f n (λ k below. h k (omega arith))) (h n (omega arith))
+
+-- the fault of the lowest offset is the first
+pub lowest_first : (text : List ℕ) (at : ℕ) (fault : PathRefusal) → at < length text → fault_at text at ≡ Some fault → ((k : ℕ) → k < at → fault_at text k ≡ None) → first_fault text ≡ Some fault
+lowest_first text at fault within here below = first_answer_found (fault_at text) at (length text) fault (first_answer_none (fault_at text) at below) here within
 
 -- a refusal of a text isn't want of memory
 pub fault_of_text : (begins : Bool) (at : ℕ) (rest : List ℕ) → option_and_then of_text (fault_here begins at rest) ≡ fault_here begins at rest
@@ -365,3 +371,26 @@ cut_step names new name rest after text end found is behind pushed before =
 pub end_step : (names new : List (List ℕ)) (name rest text : List ℕ) → position slashes rest ≡ None → name ≡ rest → new ≡ names ++ name ∷ [] → names ++ pieces rest ≡ pieces text → new ≡ pieces text
 end_step names new name rest text none is pushed before =
     pushed ∙ ap (λ (n : List ℕ). names ++ n ∷ []) is ∙ ap (λ (l : List (List ℕ)). names ++ l) (sym (cut_end rest none)) ∙ before
+
+-- the text of a rel is read as that rel
+pub rel_read_back : (names : List (List ℕ)) → is_rel names ≡ true → rel_of (rel_text names) ≡ Some names
+rel_read_back [] h = refl
+rel_read_back (name ∷ names) h =
+    let text = joined (name ∷ names) in
+    let path : is_path (name ∷ names) ≡ true = and_from (leb 1 (length (name ∷ names))) (is_rel (name ∷ names)) (le-leb 1 (length (name ∷ names)) (omega arith)) h in
+    let cut : pieces text ≡ name ∷ names = pieces_joined name names (names_of_path (name ∷ names) path) in
+    let not_dot : same_name text (46 ∷ []) ≡ false = false_from_ne_true (same_name text (46 ∷ [])) (λ same.
+    both_ways (is_name (46 ∷ [])) refl (one_name (name ∷ names) (names_of_path (name ∷ names) path) (sym cut ∙ ap pieces ((bytes_eq-Decides text (46 ∷ [])).0 same)))) in
+    ap (λ (t : Bool). if t then Some [] else path_of text) not_dot ∙ read_back (name ∷ names) path
+  where
+    one_name : (all : List (List ℕ)) → list_all is_name all ≡ true → all ≡ (46 ∷ []) ∷ [] → is_name (46 ∷ []) ≡ true
+    one_name all h e = (and_parts (is_name (46 ∷ [])) true (subst (λ (l : List (List ℕ)). list_all is_name l ≡ true) e h)).0
+
+-- a text is a rel exactly where nothing refuses it
+pub rel_is : (text : List ℕ) → is_some (rel_of text) ≡ is_none (rel_refusal text)
+rel_is text = chosen (same_name text (46 ∷ [])) (is_path (pieces text)) (refusal_of text) (path_is text)
+  where
+    chosen : (d p : Bool) (o : Option PathRefusal) → p ≡ is_none o → is_some (if d then Some [] else if p then Some (pieces text) else None) ≡ is_none (if d then None else o)
+    chosen true p o h = refl
+    chosen false true o h = h
+    chosen false false o h = h

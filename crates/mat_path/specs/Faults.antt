@@ -1,5 +1,5 @@
 -- Why a text is no path: the faults at its offsets, and the one refusal.
-use Rattle.std.specs.Prelude.{ℕ, zero, suc, ◌+◌, ◌-◌, ◌==◌, nat_le, nat_lt, nat_eq, Bool, true, false, not, ◌&&◌, ◌||◌, if◌then◌else◌, List, [], ◌∷◌, length, drop, slice_index, Option, Some, None, Result, Ok, Err, position}
+use Rattle.std.specs.Prelude.{ℕ, zero, suc, ◌-◌, ◌==◌, nat_lt, nat_eq, Bool, true, false, not, ◌&&◌, ◌||◌, if◌then◌else◌, List, [], ◌∷◌, length, drop, slice_index, Option, Some, None, Result, Ok, Err, position}
 use Rattle.std.specs.Option.{option_or, option_map}
 use Rattle.mat_path.specs.declared.path.PathRefusal.{PathRefusal}
 use Rattle.mat_path.specs.declared.path.PathRefusal.TheVariants as why

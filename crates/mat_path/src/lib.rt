@@ -15,3 +15,6 @@ pub use name::Name;
 pub use path::{JoinRefusal, Path, PathRefusal};
 pub use rel::Rel;
 pub use target::Target;
+
+#[cfg(test)]
+mod tests;

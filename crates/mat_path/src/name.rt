@@ -30,7 +30,7 @@ impl Model for Name {
 }
 
 impl Name {
-    ghost use Rattle.std.specs.Prelude.{false};
+    ghost use Rattle.std.specs.Prelude.{false, is_none};
     ghost use Rattle.std.specs.Option.{OnSome};
     ghost use Rattle.mat_path.specs.Faults.{name_refusal, refused};
 
@@ -56,6 +56,13 @@ impl Name {
                 Err(Memory) => Err(PathRefusal::NoMemory),
             },
         }
+    }
+
+    /// A text is a name exactly where it has no refusal.
+    pub fn refusals_are_exact(text: &[u8])
+        ensures { is_name text.now ≡ is_none (name_refusal text.now) }
+    {
+        let _ = text;
     }
 
     /// The same name once more.

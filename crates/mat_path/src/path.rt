@@ -59,11 +59,11 @@ impl Model for Path {
 }
 
 impl Path {
-    ghost use Rattle.std.specs.Prelude.{None};
+    ghost use Rattle.std.specs.Prelude.{None, ℕ, ◌<◌, length};
     ghost use Rattle.std.specs.Option.{OnSome};
     ghost use Rattle.mat_path.specs.declared.path.PathRefusal.{PathRefusal};
     ghost use Rattle.mat_path.specs.Names.{pieces};
-    ghost use Rattle.mat_path.specs.Faults.{refusal_of, refused, too_long};
+    ghost use Rattle.mat_path.specs.Faults.{refusal_of, refused, too_long, fault_at, first_fault};
 
     /// The names in order. Takes no memory.
     pub fn names(&self) -> &[Name]
@@ -106,7 +106,8 @@ impl Path {
         Ok(Path { names })
     }
 
-    /// The path that a text spells.
+    /// The path that a text spells, or the first of these that holds: `Empty`, `Long` for more than 1,024 bytes, the fault of the
+    /// lowest offset, `Long` for more than 64 names.
     pub fn read(alloc: Global, bytes: &[u8]) -> Result<Path, PathRefusal>
         ensures ok { IfOk result (λ path. path_of bytes.now ≡ Some path) }
         ensures only { OnSome (refused result) (path_of bytes.now ≡ None) }
@@ -116,10 +117,11 @@ impl Path {
         Ok(Path { names })
     }
 
-    /// A text is a path exactly where it has no refusal.
+    /// A text is a path exactly where it has no refusal, and of its faults the one with the lowest offset is told.
     pub fn refusals_are_exact(text: &[u8])
         ensures spelled { refusal_of text.now ≡ None → path_of text.now ≡ Some (pieces text.now) }
         ensures refused { (refusal : PathRefusal) → refusal_of text.now ≡ Some refusal → path_of text.now ≡ None }
+        ensures lowest { (at : ℕ) (fault : PathRefusal) → at < length text.now → fault_at text.now at ≡ Some fault → ((k : ℕ) → k < at → fault_at text.now k ≡ None) → first_fault text.now ≡ Some fault }
     {
         let _ = text;
     }

@@ -32,7 +32,7 @@ impl Model for Rel {
 }
 
 impl Rel {
-    ghost use Rattle.std.specs.Prelude.{◌++◌, not, Some, None};
+    ghost use Rattle.std.specs.Prelude.{◌++◌, not, Some, None, is_some, is_none};
     ghost use Rattle.std.specs.Option.{OnSome};
     ghost use Rattle.mat_path.specs.Names.{rel_of};
     ghost use Rattle.mat_path.specs.Faults.{rel_refusal, refused, too_long};
@@ -98,9 +98,17 @@ impl Rel {
         Ok(Rel { names })
     }
 
-    /// The text of the rel, `.` for the empty one.
+    /// A text is a rel exactly where it has no refusal.
+    pub fn refusals_are_exact(text: &[u8])
+        ensures { is_some (rel_of text.now) ≡ is_none (rel_refusal text.now) }
+    {
+        let _ = text;
+    }
+
+    /// The text of the rel, `.` for the empty one. It is read as this rel again.
     pub fn write(&self) -> Result<Vec<u8>, Memory>
         ensures ok { IfOk result (λ text. text.items ≡ rel_text self.now) }
+        ensures again { rel_of (rel_text self.now) ≡ Some self.now }
     {
         let alloc = *self.names.allocator();
         if self.names.is_empty() {

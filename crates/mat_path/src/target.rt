@@ -30,7 +30,7 @@ impl Model for Target {
 }
 
 impl Target {
-    ghost use Rattle.std.specs.Prelude.{false};
+    ghost use Rattle.std.specs.Prelude.{false, is_none};
     ghost use Rattle.std.specs.Option.{OnSome};
     ghost use Rattle.mat_path.specs.Faults.{target_refusal, refused};
 
@@ -47,6 +47,13 @@ impl Target {
                 Err(_) => Err(PathRefusal::NoMemory),
             },
         }
+    }
+
+    /// A text is a target exactly where it has no refusal.
+    pub fn refusals_are_exact(text: &[u8])
+        ensures { is_target text.now ≡ is_none (target_refusal text.now) }
+    {
+        let _ = text;
     }
 
     /// The bytes of the target. Takes no memory.

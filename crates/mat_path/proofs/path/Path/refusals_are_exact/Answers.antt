@@ -1,4 +1,4 @@
-use Rattle.mat_path.proofs.ReadLemmas.{spelled, no_path}
+use Rattle.mat_path.proofs.ReadLemmas.{spelled, no_path, lowest_first}
 use Rattle.std.proofs.Common.{refl}
 use Rattle.mat_path.specs.Names.{pieces}
 use Rattle.mat_path.proofs.path.Path.refusals_are_exact.Goals as goal
@@ -8,3 +8,6 @@ returns-clause-spelled c = λ none. spelled c.args.text.now (pieces c.args.text.
 
 pub returns-clause-refused : goal.returns-clause-refused
 returns-clause-refused c = λ refusal h. no_path c.args.text.now refusal h
+
+pub returns-clause-lowest : goal.returns-clause-lowest
+returns-clause-lowest c = λ at fault within here below. lowest_first c.args.text.now at fault within here below

@@ -1,4 +1,4 @@
-use Rattle.std.proofs.Common.{◌≡◌, ℕ, List, true, subst, sym}
+use Rattle.std.proofs.Common.{◌≡◌, ℕ, List, true, subst}
 use Rattle.mat_path.specs.Names.{is_path}
 use Rattle.mat_path.proofs.ReadLemmas.{read_back}
 use Rattle.mat_path.proofs.path.Path.write.Goals as goal
