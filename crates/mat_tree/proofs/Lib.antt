@@ -1,0 +1,12 @@
+pub mod Ascending
+pub mod Bytes
+pub mod Folds
+pub mod Joins
+pub mod Last
+pub mod Pairs
+pub mod Parts
+pub mod Paths
+pub mod Placed
+pub mod Refusals
+pub mod Subtrees
+pub mod Turns
