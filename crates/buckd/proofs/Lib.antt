@@ -1,0 +1,10 @@
+pub mod Words
+pub mod TextsLemmas
+pub mod RowLemmas
+pub mod Seen
+pub mod LineLemmas
+pub mod Past
+pub mod Stepping
+pub mod Written
+pub mod Kept
+pub mod MadeLemmas

@@ -1,0 +1,540 @@
+// A daemon over plain lists: its book, its history, and the disk that it writes.
+ghost use Rattle.std.specs.Prelude.{◌≡◌, ◌∷◌, ◌++◌, ◌+◌, ◌&&◌, ◌<◌, ◌≤◌, ◌^◌, [], ℕ, List, None, Some, find, length, true, false, IfOk, OnOk};
+ghost use Rattle.std.specs.List.{list_any};
+ghost use Rattle.std.specs.Option.{option_map};
+ghost use Rattle.std.specs.BTreeMap.{get};
+ghost use Rattle.std.specs.Ordering.{is_eq};
+ghost use Rattle.mat_path.specs.Names.{path_cmp};
+ghost use Rattle.mat_digest.specs.Digests.{digest_of};
+ghost use Rattle.mat_tree.specs.Parts.{replaced, without};
+ghost use Rattle.mat_tree.specs.Trees.{file_sum, file_tree};
+ghost use Rattle.mat_model.specs.declared.entries.Event.TheVariants as event;
+ghost use Rattle.mat_model.specs.declared.entries.Outcome.TheVariants as outcome;
+ghost use Rattle.mat_model.specs.declared.entries.Task.TheVariants as task;
+ghost use Rattle.mat_model.specs.declared.requests.Asked.TheVariants as asked;
+ghost use Rattle.mat_model.specs.Gate.{is_live, enter};
+ghost use Rattle.mat_model.specs.Holding.{AreHeld};
+ghost use Rattle.mat_model.specs.Requests.{ensure, grant, new_row, write};
+ghost use Rattle.mat_model.specs.Rows.{overlaps_row};
+ghost use Rattle.mat_model.specs.Work.{end_make, first_task, is_declared};
+ghost use Rattle.mat_model.proofs.Clear.{declared_alone};
+ghost use Rattle.region_port.specs.Disks.{disk_content};
+ghost use Rattle.buckd.specs.Making.{file_part};
+ghost use Rattle.buckd.specs.Run.{entry_at};
+
+use crate::items::{Item, Line};
+use crate::making::put_on_disk;
+use crate::{rows, texts, tickets};
+use mat_digest::Digest;
+use mat_model::{
+    Answer, Asked, Book, By, Entry, Event, Hold, Outcome, Recorded, Reply, Request, Row, Task,
+    Ticket,
+};
+use mat_path::{Items, Memory, Path, Rel};
+use mat_tree::{Flat, Kind, Sum, Tree, What};
+use region_port::MemDisk;
+use std::alloc::Global;
+use std::collections::BTreeMap;
+
+/// The daemon: the parts of its book, the bytes that rows were declared with, the history so far, and the disk.
+#[derive(Drop)]
+pub struct Daemon {
+    state: Option<u64>,
+    live: Vec<u32>,
+    rows: Vec<Row>,
+    held: BTreeMap<Path, Items<u8>>,
+    holds: Vec<Hold>,
+    tickets: Vec<Ticket>,
+    history: Vec<Entry>,
+    disk: MemDisk,
+}
+
+/// What is left of a run: its book, and the history that led to it.
+#[derive(Debug, Drop)]
+pub struct Run {
+    pub book: Book,
+    pub history: Items<Entry>,
+}
+
+/// The tree of one file.
+fn file_tree(alloc: Global, digest: Digest) -> Result<Tree, Memory>
+    ensures { IfOk result (λ tree. tree ≡ file_tree digest false) }
+{
+    let node = Flat {
+        rel: Rel::root(alloc),
+        what: What::File {
+            digest,
+            exec: false,
+        },
+    };
+    let nodes = [node];
+    // No line that is read has as many bytes as the limit of a file.
+    if !Flat::are_small(&nodes) {
+        return Err(Memory);
+    }
+    match Tree::from_flat(alloc, &nodes) {
+        Ok(tree) => Ok(tree),
+        Err(_) => Err(Memory),
+    }
+}
+
+/// A row as it is declared: the file of a digest, which doesn't stand yet.
+fn new_row(alloc: Global, number: u64, path: &Path, digest: Digest) -> Result<Row, Memory>
+    ensures { IfOk result (λ row. row ≡ new_row number 0 path.now (file_tree digest false) (file_sum digest false)) }
+{
+    let path = path.copy()?;
+    let tree = file_tree(alloc, digest)?;
+    let sum = Sum {
+        kind: Kind::File,
+        digest,
+    };
+    Ok(Row {
+        path,
+        tree,
+        sum,
+        stamp: number,
+        stands: false,
+        last: 0,
+    })
+}
+
+/// Keeps the bytes of the row at a path.
+fn keep_bytes(
+    held: &mut BTreeMap<Path, Items<u8>>,
+    path: &Path,
+    bytes: Items<u8>,
+) -> Result<(), Memory>
+    ensures others { OnOk result ((q : List (List ℕ)) → is_eq (path_cmp path.now q) ≡ false → get path_cmp held.new q ≡ get path_cmp held.old q) }
+    ensures found { OnOk result (get path_cmp held.new path.now ≡ Some bytes) }
+{
+    let key = path.copy()?;
+    held.insert(key, bytes)?;
+    Ok(())
+}
+
+/// Adds an event with its reply to a history.
+fn enter_event(history: &mut Vec<Entry>, event: Event, reply: Reply) -> Result<(), Memory>
+    ensures { OnOk result (history.new.items ≡ history.old.items ++ entry_at (length history.old.items) event reply ∷ []) }
+{
+    let by = By {
+        caller: 0,
+        number: history.len() as u64,
+    };
+    history.push(Entry {
+        by,
+        now: 0,
+        event,
+        reply,
+    })?;
+    Ok(())
+}
+
+impl Daemon {
+    ghost use Rattle.buckd.specs.Daemon.{book_of, point_of, task_for, Serves, Steps, Tells};
+    ghost use Rattle.buckd.specs.Run.{asked_of, drain, is_not_yet, made, make_first, start, step, tell, tell_item};
+    ghost use Rattle.buckd.specs.declared.items.Item.TheVariants as item;
+    ghost use Rattle.buckd.specs.Sound.{kept_by, IsKept, IsPast, IsSound, KeepsBook, KeepsDisk, KeepsRows};
+
+    /// A daemon over an empty disk.
+    pub fn new(alloc: Global) -> Daemon
+        ensures start { point_of result ≡ start }
+        ensures sound { IsSound result }
+    {
+        Daemon {
+            state: None,
+            live: Vec::new(alloc),
+            rows: Vec::new(alloc),
+            held: BTreeMap::new(alloc),
+            holds: Vec::new(alloc),
+            tickets: Vec::new(alloc),
+            history: Vec::new(alloc),
+            disk: MemDisk::new(alloc),
+        }
+    }
+
+    /// What is left of the daemon.
+    pub fn into_parts(self, alloc: Global) -> (Run, MemDisk)
+        requires { IsSound self }
+        ensures book { result.0.book ≡ (point_of self).book }
+        ensures history { result.0.history ≡ (point_of self).history }
+        ensures held { AreHeld (disk_content result.1) result.0.book.rows }
+    {
+        let Daemon {
+            state,
+            live,
+            rows,
+            held,
+            holds,
+            tickets,
+            history,
+            disk,
+        } = self;
+        let _ = held;
+        let book = Book {
+            first: 0,
+            now: 0,
+            state,
+            live: Items::of(live),
+            waiting: Items::of(Vec::new(alloc)),
+            rows: Items::of(rows),
+            holds: Items::of(holds),
+            tickets: Items::of(tickets),
+        };
+        let history = Items::of(history);
+        (Run { book, history }, disk)
+    }
+
+    /// The number of the next entry.
+    fn number(&self) -> u64
+        ensures { result ≡ length self.now.history.items }
+    {
+        self.history.len() as u64
+    }
+
+    /// Whether a command is live.
+    fn is_live(&self, command: u32) -> bool
+        ensures { result ≡ is_live command (book_of self.now) }
+    {
+        self.live.iter().any(|live| *live == command)
+    }
+
+    /// Whether a request isn't served yet.
+    fn is_not_yet(&self, request: &Request) -> bool
+        ensures { result ≡ is_not_yet request.now (book_of self.now) }
+    {
+        match request {
+            Request::Enter { .. } => !self.live.is_empty(),
+            Request::Write { command, path, .. } => {
+                self.is_live(*command) && rows::any_overlaps(self.rows.as_slice(), path)
+            }
+            Request::Ensure { .. } => false,
+        }
+    }
+
+    /// A command comes, where nobody is live.
+    fn enter(&mut self, command: u32, state: u64) -> Result<Reply, Memory>
+        requires alone { length self.old.live.items ≡ 0 }
+        requires kept { IsKept self.old }
+        ensures served { IfOk result (λ reply. Serves (enter command state (book_of self.old)) self.old self.new reply) }
+        ensures kept { OnOk result (IsKept self.new) }
+        ensures tickets { self.new.tickets ≡ self.old.tickets }
+    {
+        self.live.push(command)?;
+        self.state = Some(state);
+        Ok(Reply::Entered)
+    }
+
+    /// Declares a file at a path that no row overlaps.
+    fn declare(
+        &mut self,
+        command: u32,
+        path: &Path,
+        digest: Digest,
+        bytes: Items<u8>,
+    ) -> Result<Reply, Memory>
+        requires clear { list_any (overlaps_row path.now) self.old.rows.items ≡ false }
+        requires kept { IsKept self.old }
+        requires digest { digest ≡ digest_of bytes }
+        ensures served { IfOk result (λ reply. Serves
+            (declared_alone (length self.old.history.items) command path.now (file_tree digest false) (file_sum digest false) (book_of self.old))
+            self.old self.new reply) }
+        ensures kept { OnOk result (IsKept self.new) }
+        ensures tickets { self.new.tickets ≡ self.old.tickets }
+    {
+        let number = self.number();
+        let row = new_row(*self.history.allocator(), number, path, digest)?;
+        rows::put_row(&mut self.rows, row)?;
+        tickets::hold(&mut self.holds, command, path)?;
+        keep_bytes(&mut self.held, path, bytes)?;
+        Ok(Reply::Declared(number))
+    }
+
+    /// Writes a file, at a path that no row overlaps where the command is live.
+    fn write(
+        &mut self,
+        command: u32,
+        path: &Path,
+        digest: Digest,
+        bytes: Items<u8>,
+    ) -> Result<Reply, Memory>
+        requires clear { (is_live command (book_of self.old) && list_any (overlaps_row path.now) self.old.rows.items) ≡ false }
+        requires kept { IsKept self.old }
+        requires digest { digest ≡ digest_of bytes }
+        ensures served { IfOk result (λ reply. Serves
+            (write (length self.old.history.items) command path.now (file_sum digest false) (book_of self.old)) self.old self.new reply) }
+        ensures kept { OnOk result (IsKept self.new) }
+        ensures tickets { self.new.tickets ≡ self.old.tickets }
+    {
+        if !self.is_live(command) {
+            return Ok(Reply::NotLive);
+        }
+        self.declare(command, path, digest, bytes)
+    }
+
+    /// Answers for a row that covers the path: it is ready, or a ticket is opened.
+    fn grant(
+        &mut self,
+        command: u32,
+        path: &Path,
+        stamp: u64,
+        sum: Sum,
+        stands: bool,
+    ) -> Result<Reply, Memory>
+        ensures served { IfOk result (λ reply. Serves
+            (grant (length self.old.history.items) command path.now stamp sum stands (book_of self.old)) self.old self.new reply) }
+        ensures same { KeepsRows self.old self.new }
+        ensures past { (number : ℕ) → IsPast number self.old → OnOk result (IsPast number self.new) }
+    {
+        tickets::hold(&mut self.holds, command, path)?;
+        if stands {
+            return Ok(Reply::Ready { stamp, sum });
+        }
+        let number = self.number();
+        let asked = path.copy()?;
+        self.tickets.push(Ticket {
+            number,
+            command,
+            asked,
+            answered: None,
+        })?;
+        Ok(Reply::Asked(number))
+    }
+
+    /// Asks for what covers a path.
+    fn ensure(&mut self, command: u32, path: &Path) -> Result<Reply, Memory>
+        requires { IsKept self.old }
+        ensures served { IfOk result (λ reply.
+            Serves (ensure (length self.old.history.items) command path.now (book_of self.old)) self.old self.new reply) }
+        ensures kept { OnOk result (IsKept self.new) }
+        ensures past { (number : ℕ) → IsPast number self.old → OnOk result (IsPast number self.new) }
+    {
+        if !self.is_live(command) {
+            return Ok(Reply::NotLive);
+        }
+        match rows::cover(self.rows.as_slice(), path) {
+            Some(row) => {
+                let (stamp, sum, stands) = (row.stamp, row.sum, row.stands);
+                let at = row.path.copy()?;
+                rows::note_use(&mut self.rows, &at, 0);
+                self.grant(command, path, stamp, sum, stands)
+            }
+            None => Ok(Reply::Undeclared),
+        }
+    }
+
+    /// Serves a write and enters it into the history.
+    fn serve_write(&mut self, command: u32, path: Path, bytes: Items<u8>) -> Result<Reply, Memory>
+        requires clear { (is_live command (book_of self.old) && list_any (overlaps_row path) self.old.rows.items) ≡ false }
+        requires kept { IsKept self.old }
+        ensures served { IfOk result (λ reply.
+            Steps (step (event.Asked (asked.Write command path (file_sum (digest_of bytes) false))) (point_of self.old)) self.new reply) }
+        ensures kept { OnOk result (IsKept self.new) }
+        ensures past { (number : ℕ) → IsPast number self.old → OnOk result (IsPast number self.new) }
+    {
+        let digest = Digest::of(bytes.as_slice());
+        let reply = self.write(command, &path, digest, bytes)?;
+        let sum = Sum {
+            kind: Kind::File,
+            digest,
+        };
+        let asked = Asked::Write { command, path, sum };
+        enter_event(&mut self.history, Event::Asked(asked), reply)?;
+        Ok(reply)
+    }
+
+    /// Serves a request and enters it into the history.
+    fn serve(&mut self, request: Request) -> Result<Reply, Memory>
+        requires served { is_not_yet request (book_of self.old) ≡ false }
+        requires kept { IsKept self.old }
+        ensures served { IfOk result (λ reply. Steps (step (event.Asked (asked_of request)) (point_of self.old)) self.new reply) }
+        ensures kept { OnOk result (IsKept self.new) }
+        ensures past { (number : ℕ) → IsPast number self.old → OnOk result (IsPast number self.new) }
+    {
+        match request {
+            Request::Enter { command, state } => {
+                let reply = self.enter(command, state)?;
+                let asked = Asked::Enter { command, state };
+                enter_event(&mut self.history, Event::Asked(asked), reply)?;
+                Ok(reply)
+            }
+            Request::Write {
+                command,
+                path,
+                bytes,
+            } => self.serve_write(command, path, bytes),
+            Request::Ensure { command, path } => {
+                let reply = self.ensure(command, &path)?;
+                let asked = Asked::Ensure { command, path };
+                enter_event(&mut self.history, Event::Asked(asked), reply)?;
+                Ok(reply)
+            }
+        }
+    }
+
+    /// The path and the stamp of the row that is made first.
+    fn first_make(&self) -> Result<Option<(Path, u64)>, Memory>
+        ensures { IfOk result (λ make. option_map task_for make ≡ first_task self.now.rows.items self.now.tickets.items) }
+    {
+        match tickets::first_row(self.rows.as_slice(), self.tickets.as_slice()) {
+            Some(row) => {
+                let path = row.path.copy()?;
+                Ok(Some((path, row.stamp)))
+            }
+            None => Ok(None),
+        }
+    }
+
+    /// Makes the disk hold the bytes that are kept for the row at a path.
+    fn write_row(&mut self, path: &Path) -> Result<(), Memory>
+        requires { self.old.disk.loans.items ≡ [] }
+        ensures free { self.new.disk.loans.items ≡ [] }
+        ensures same { KeepsBook self.old self.new }
+        ensures content { (bytes : List ℕ) → kept_by self.old path.now ≡ Some bytes → OnOk result
+            (disk_content self.new.disk ≡ replaced path.now (file_part bytes) (without path.now (disk_content self.old.disk))) }
+    {
+        let alloc = *self.history.allocator();
+        match self.held.get(path) {
+            Some(bytes) => put_on_disk(alloc, &mut self.disk, path, bytes.as_slice()),
+            None => Err(Memory),
+        }
+    }
+
+    /// The end of a make: its row stands, and the tickets that are open on it are answered.
+    fn end_make(&mut self, path: &Path, stamp: u64) -> Reply
+        ensures served { Serves
+            (end_make (length self.old.history.items) path.now outcome.Made (book_of self.old) (find (is_declared path.now stamp) self.old.rows.items))
+            self.old self.new result }
+        ensures same { KeepsDisk self.old self.new }
+    {
+        let number = self.number();
+        match rows::declared(self.rows.as_slice(), path, stamp) {
+            Some(row) => {
+                let answer = Answer::Ready {
+                    stamp: row.stamp,
+                    sum: row.sum,
+                };
+                tickets::answer_row(self.tickets.as_mut_slice(), row, number, answer);
+            }
+            None => return Reply::Stale,
+        }
+        rows::stand(self.rows.as_mut_slice(), path);
+        Reply::Fresh(Recorded::Nothing)
+    }
+
+    /// Makes the row that comes first.
+    fn make(&mut self, path: Path, stamp: u64) -> Result<(), Memory>
+        requires first { first_task self.old.rows.items self.old.tickets.items ≡ Some (task.Make path stamp) }
+        requires sound { IsSound self.old }
+        ensures point { OnOk result (point_of self.new ≡ made (task.Make path stamp) (point_of self.old)) }
+        ensures sound { OnOk result (IsSound self.new) }
+    {
+        let job = self.number();
+        let task = Task::Make {
+            path: path.copy()?,
+            stamp,
+        };
+        enter_event(&mut self.history, Event::Begin(task), Reply::Started)?;
+        self.write_row(&path)?;
+        let reply = self.end_make(&path, stamp);
+        let done = Event::Done {
+            job,
+            outcome: Outcome::Made,
+        };
+        enter_event(&mut self.history, done, reply)
+    }
+
+    /// Makes the row of the lowest open ticket, if there is one, and says whether there was.
+    fn make_first(&mut self) -> Result<bool, Memory>
+        requires { IsSound self.old }
+        ensures point { OnOk result (point_of self.new ≡ make_first (point_of self.old)) }
+        ensures none { IfOk result (λ more. more ≡ false → first_task self.old.rows.items self.old.tickets.items ≡ None) }
+        ensures sound { OnOk result (IsSound self.new) }
+    {
+        match self.first_make()? {
+            Some((path, stamp)) => {
+                self.make(path, stamp)?;
+                Ok(true)
+            }
+            None => Ok(false),
+        }
+    }
+
+    /// Makes each row that has an open ticket, the one with the lowest ticket first.
+    fn drain(&mut self) -> Result<(), Memory>
+        requires { IsSound self.old }
+        ensures point { OnOk result (point_of self.new ≡ drain (point_of self.old)) }
+        ensures sound { OnOk result (IsSound self.new) }
+    {
+        let count = tickets::open_count(self.tickets.as_slice());
+        for done in 0..count {
+            let more = self.make_first()?;
+            if !more {
+                return Ok(());
+            }
+        }
+        Ok(())
+    }
+
+    /// Answers a request.
+    fn tell_request(&mut self, request: Request, out: &mut Vec<u8>) -> Result<(), Memory>
+        requires { IsSound self.old }
+        ensures told { OnOk result (Tells (tell_item (item.Request request) (point_of self.old)) self.new out.old.items out.new.items) }
+        ensures sound { OnOk result (IsSound self.new) }
+    {
+        if self.is_not_yet(&request) {
+            return texts::push_text(out, b"notyet\n");
+        }
+        let reply = self.serve(request)?;
+        texts::push_reply(out, &reply)?;
+        texts::push_text(out, b"\n")
+    }
+
+    /// Drains, and tells the tickets that were answered.
+    fn tell_drain(&mut self, out: &mut Vec<u8>) -> Result<(), Memory>
+        requires { IsSound self.old }
+        ensures told { OnOk result (Tells (tell_item item.Drain (point_of self.old)) self.new out.old.items out.new.items) }
+        ensures sound { OnOk result (IsSound self.new) }
+    {
+        let before = self.number();
+        self.drain()?;
+        texts::push_text(out, b"drained\n")?;
+        let count = self.number().saturating_sub(before);
+        texts::push_answer_lines(out, before, count, self.tickets.as_slice())
+    }
+
+    /// Tells what the disk has at and below a path.
+    fn tell_show(&self, path: &Path, out: &mut Vec<u8>) -> Result<(), Memory>
+        requires { IsSound self.now }
+        ensures { OnOk result (Tells (tell_item (item.Show path.now) (point_of self.now)) self.now out.old.items out.new.items) }
+    {
+        let nodes = self.disk.nodes(path)?;
+        texts::push_shown(out, nodes.as_slice())
+    }
+
+    /// Answers an item.
+    fn tell_item(&mut self, item: Item, out: &mut Vec<u8>) -> Result<(), Memory>
+        requires { IsSound self.old }
+        ensures told { OnOk result (Tells (tell_item item (point_of self.old)) self.new out.old.items out.new.items) }
+        ensures sound { OnOk result (IsSound self.new) }
+    {
+        match item {
+            Item::Request(request) => self.tell_request(request, out),
+            Item::Drain => self.tell_drain(out),
+            Item::Show(path) => self.tell_show(&path, out),
+        }
+    }
+
+    /// Answers a line.
+    pub fn tell(&mut self, line: Line, out: &mut Vec<u8>) -> Result<(), Memory>
+        requires { IsSound self.old }
+        ensures told { OnOk result (Tells (tell line (point_of self.old)) self.new out.old.items out.new.items) }
+        ensures sound { OnOk result (IsSound self.new) }
+    {
+        match line {
+            Line::Skip => Ok(()),
+            Line::End => Ok(()),
+            Line::NotYet => texts::push_text(out, b"notyet\n"),
+            Line::Item(item) => self.tell_item(item, out),
+        }
+    }
+}

@@ -1,0 +1,5 @@
+pub mod Tests
+pub mod Clear
+pub mod Apart
+pub mod Stood
+pub mod Makes

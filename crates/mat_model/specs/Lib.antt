@@ -1,0 +1,6 @@
+pub mod Rows
+pub mod Gate
+pub mod Requests
+pub mod Work
+pub mod History
+pub mod Holding

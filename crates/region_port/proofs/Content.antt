@@ -1,0 +1,93 @@
+-- What a list of entries has at each path, with one more, or with those of one part alone.
+use Rattle.std.proofs.Common.{◌≡◌, ℕ, Bool, true, false, cond, not, List, [], ◌∷◌, ◌++◌, length, drop, refl, ap, sym, ◌∙◌, ◌<◌, ◌+◌, take, get_or}
+use Rattle.std.specs.Prelude.{Option, Some, None}
+use Rattle.std.specs.List.{filter, list_all}
+use Rattle.std.specs.Option.{option_map, option_or}
+use Rattle.std.proofs.lemmas.List.{take_more}
+use Rattle.region_port.specs.Reads.{file_bytes}
+use Rattle.mat_path.specs.Names.{same_names, is_prefix}
+use Rattle.mat_tree.specs.Parts.{below, without, with_node, replaced}
+use Rattle.region_port.specs.Entries.{latest, content_of, node_of, is_entry_at, path_of_entry, is_within, is_outside}
+use Rattle.region_port.specs.declared.entry.Entry.{Entry}
+use Rattle.region_port.proofs.Names.{same_names-Decides, same_names-sym, same_names-behind, is_prefix-Decides, is_prefix_of_joined}
+use Rattle.region_port.proofs.Latest.{latest-append, latest-push, latest-filter, filter_all, option_or-none}
+
+-- an entry more is the node at its path
+pub content_of-push : (entries : List Entry) (entry : Entry) (path : List (List ℕ)) → content_of (entries ++ entry ∷ []) path ≡ cond (same_names entry.path path) (Some (node_of entry)) (content_of entries path)
+content_of-push entries entry path = ap (option_map node_of) (latest-push (is_entry_at path) entries entry) ∙ by (same_names entry.path path)
+  where
+    by : (b : Bool) → option_map node_of (cond b (Some entry) (latest (is_entry_at path) entries)) ≡ cond b (Some (node_of entry)) (content_of entries path)
+    by true = refl
+    by false = refl
+
+-- a put, as the part below a path sees it
+pub with_node-push : (place rel : List (List ℕ)) (entries : List Entry) (entry : Entry) → entry.path ≡ place ++ rel
+    → below place (content_of (entries ++ entry ∷ [])) ≡ with_node rel (node_of entry) (below place (content_of entries))
+with_node-push place rel entries entry e =
+    let each : (q : List (List ℕ)) → below place (content_of (entries ++ entry ∷ [])) q ≡ with_node rel (node_of entry) (below place (content_of entries)) q =
+    λ q. content_of-push entries entry (place ++ q)
+    ∙ ap (λ b. cond b (Some (node_of entry)) (content_of entries (place ++ q)))
+    (ap (λ p. same_names p (place ++ q)) e ∙ same_names-behind place rel q ∙ same_names-sym rel q)
+    in λ i q. each q i
+
+-- the entries at or below a path
+pub content_of-within : (place : List (List ℕ)) (entries : List Entry) (path : List (List ℕ)) → content_of (filter (is_within path_of_entry place) entries) path ≡ cond (is_prefix place path) (content_of entries path) None
+content_of-within place entries path =
+    ap (option_map node_of) (latest-filter (is_entry_at path) (is_within path_of_entry place) (is_prefix place path) (λ e h. ap (is_prefix place) ((same_names-Decides e.path path).0 h)) entries)
+    ∙ by (is_prefix place path)
+  where
+    by : (b : Bool) → option_map node_of (cond b (latest (is_entry_at path) entries) None) ≡ cond b (content_of entries path) None
+    by true = refl
+    by false = refl
+
+pub below-within : (place : List (List ℕ)) (entries : List Entry) → below place (content_of (filter (is_within path_of_entry place) entries)) ≡ below place (content_of entries)
+below-within place entries =
+    let each : (q : List (List ℕ)) → below place (content_of (filter (is_within path_of_entry place) entries)) q ≡ below place (content_of entries) q =
+    λ q. content_of-within place entries (place ++ q) ∙ ap (λ b. cond b (content_of entries (place ++ q)) None) (is_prefix_of_joined place q)
+    in λ i q. each q i
+
+-- the other entries
+pub content_of-outside : (place : List (List ℕ)) (entries : List Entry) → content_of (filter (is_outside path_of_entry place) entries) ≡ without place (content_of entries)
+content_of-outside place entries =
+    let each : (q : List (List ℕ)) → content_of (filter (is_outside path_of_entry place) entries) q ≡ without place (content_of entries) q =
+    λ q. ap (option_map node_of) (latest-filter (is_entry_at q) (is_outside path_of_entry place) (not (is_prefix place q)) (λ e h. ap (λ p. not (is_prefix place p)) ((same_names-Decides e.path q).0 h)) entries)
+    ∙ by q (is_prefix place q)
+    in λ i q. each q i
+  where
+    by : (q : List (List ℕ)) (b : Bool) → option_map node_of (cond (not b) (latest (is_entry_at q) entries) None) ≡ cond b None (content_of entries q)
+    by q true = refl
+    by q false = refl
+
+pub content_of-append : (xs ys : List Entry) (path : List (List ℕ)) → content_of (xs ++ ys) path ≡ option_or (content_of ys path) (content_of xs path)
+content_of-append xs ys path = ap (option_map node_of) (latest-append (is_entry_at path) xs ys) ∙ mapped (latest (is_entry_at path) ys) (latest (is_entry_at path) xs)
+  where
+    mapped : (a b : Option Entry) → option_map node_of (option_or a b) ≡ option_or (option_map node_of a) (option_map node_of b)
+    mapped None b = refl
+    mapped (Some x) b = refl
+
+-- a part put back where nothing is
+pub content_of-replaced : (place : List (List ℕ)) (others inner : List Entry) → list_all (is_within path_of_entry place) inner ≡ true
+    → ((q : List (List ℕ)) → is_prefix place q ≡ true → content_of others q ≡ None)
+    → content_of (others ++ inner) ≡ replaced place (below place (content_of inner)) (content_of others)
+content_of-replaced place others inner all free =
+    let each : (q : List (List ℕ)) → content_of (others ++ inner) q ≡ replaced place (below place (content_of inner)) (content_of others) q =
+    λ q. content_of-append others inner q ∙ by q (is_prefix place q) refl
+    in λ i q. each q i
+  where
+    by : (q : List (List ℕ)) (b : Bool) → is_prefix place q ≡ b → option_or (content_of inner q) (content_of others q) ≡ cond b (content_of inner (place ++ drop (length place) q)) (content_of others q)
+    by q true e = ap (option_or (content_of inner q)) (free q e) ∙ option_or-none (content_of inner q) ∙ ap (content_of inner) ((is_prefix-Decides place q).0 e)
+    by q false e =
+        let nothing : content_of inner q ≡ None =
+        ap (λ l. content_of l q) (sym (filter_all (is_within path_of_entry place) inner all)) ∙ content_of-within place inner q ∙ ap (λ b. cond b (content_of inner q) None) e
+        in ap (λ o. option_or o (content_of others q)) nothing
+
+-- the bytes of a file, with one more of a list of entries
+pub bytes-more : (entries : List Entry) (i : ℕ) (entry : Entry) (path : List (List ℕ)) → i < length entries → entry ≡ get_or entries i entry
+    → cond (same_names entry.path path) (file_bytes (Some (node_of entry))) (file_bytes (content_of (take i entries) path)) ≡ file_bytes (content_of (take (i + 1) entries) path)
+bytes-more entries i entry path l e =
+    by (same_names entry.path path)
+    ∙ ap file_bytes (sym (ap (λ list. content_of list path) (take_more entries i entry l ∙ ap (λ x. take i entries ++ x ∷ []) (sym e)) ∙ content_of-push (take i entries) entry path))
+  where
+    by : (b : Bool) → cond b (file_bytes (Some (node_of entry))) (file_bytes (content_of (take i entries) path)) ≡ file_bytes (cond b (Some (node_of entry)) (content_of (take i entries) path))
+    by true = refl
+    by false = refl

@@ -1,0 +1,71 @@
+-- The last element that passes a test, in a list with more elements or with fewer.
+use Rattle.std.proofs.Common.{◌≡◌, Bool, true, false, ◌&&◌, cond, List, [], ◌∷◌, ◌++◌, refl, ap, sym, ◌∙◌}
+use Rattle.std.specs.Prelude.{Option, Some, None}
+use Rattle.std.specs.List.{filter, list_all}
+use mathlib.Core.Bool.{true≢false}
+use Rattle.std.proofs.lemmas.List.Folds.{list_all-append}
+use Rattle.std.specs.Option.{option_or}
+use Rattle.region_port.specs.Entries.{latest}
+
+pub option_or-none : {X : Type 0} (a : Option X) → option_or a None ≡ a
+option_or-none None = refl
+option_or-none (Some x) = refl
+
+option_or-assoc : {X : Type 0} (a b c : Option X) → option_or (option_or a b) c ≡ option_or a (option_or b c)
+option_or-assoc None b c = refl
+option_or-assoc (Some x) b c = refl
+
+pub latest-append : {X : Type 0} (p : X → Bool) (xs ys : List X) → latest p (xs ++ ys) ≡ option_or (latest p ys) (latest p xs)
+latest-append p [] ys = sym (option_or-none (latest p ys))
+latest-append p (x ∷ xs) ys =
+    ap (λ o. option_or o (cond (p x) (Some x) None)) (latest-append p xs ys)
+    ∙ option_or-assoc (latest p ys) (latest p xs) (cond (p x) (Some x) None)
+
+-- one element more, behind the others
+pub latest-push : {X : Type 0} (p : X → Bool) (xs : List X) (x : X) → latest p (xs ++ x ∷ []) ≡ cond (p x) (Some x) (latest p xs)
+latest-push p xs x = latest-append p xs (x ∷ []) ∙ by (p x)
+  where
+    by : (b : Bool) → option_or (cond b (Some x) None) (latest p xs) ≡ cond b (Some x) (latest p xs)
+    by true = refl
+    by false = refl
+
+-- a filter by what the test cannot tell apart keeps or loses all that the test finds
+pub latest-filter : {X : Type 0} (test p : X → Bool) (b : Bool) → ((x : X) → test x ≡ true → p x ≡ b) → (xs : List X) → latest test (filter p xs) ≡ cond b (latest test xs) None
+latest-filter test p true same [] = refl
+latest-filter test p false same [] = refl
+latest-filter {X} test p b same (x ∷ xs) = apart (p x) ∙ by (p x) (test x) b (latest test (filter p xs)) (latest test xs) (same x) (latest-filter test p b same xs)
+  where
+    apart : (k : Bool) → latest test (cond k (x ∷ filter p xs) (filter p xs)) ≡ cond k (option_or (latest test (filter p xs)) (cond (test x) (Some x) None)) (latest test (filter p xs))
+    apart true = refl
+    apart false = refl
+
+    by : (k t b : Bool) (f l : Option X) → (t ≡ true → k ≡ b) → f ≡ cond b l None → cond k (option_or f (cond t (Some x) None)) f ≡ cond b (option_or l (cond t (Some x) None)) None
+    by true true true f l s e = ap (λ o. option_or o (Some x)) e
+    by true true false f l s e = absurd (true≢false (s refl))
+    by true false true f l s e = ap (λ o. option_or o None) e
+    by true false false f l s e = ap (λ o. option_or o None) e
+    by false true true f l s e = absurd (true≢false (sym (s refl)))
+    by false true false f l s e = e
+    by false false true f l s e = e ∙ sym (option_or-none l)
+    by false false false f l s e = e
+
+-- a list of what passes is its own filter
+pub filter_all : {X : Type 0} (p : X → Bool) (xs : List X) → list_all p xs ≡ true → filter p xs ≡ xs
+filter_all p [] e = refl
+filter_all {X} p (x ∷ xs) e = by (p x) e (filter_all p xs)
+  where
+    by : (b : Bool) → (b && list_all p xs) ≡ true → (list_all p xs ≡ true → filter p xs ≡ xs) → cond b (x ∷ filter p xs) (filter p xs) ≡ x ∷ xs
+    by true h f = ap (λ l. x ∷ l) (f h)
+    by false h f = absurd (true≢false (sym h))
+
+-- what a filter leaves passes
+pub all_filter : {X : Type 0} (p : X → Bool) (xs : List X) → list_all p (filter p xs) ≡ true
+all_filter p [] = refl
+all_filter {X} p (x ∷ xs) = by (p x) refl (all_filter p xs)
+  where
+    by : (b : Bool) → p x ≡ b → list_all p (filter p xs) ≡ true → list_all p (cond b (x ∷ filter p xs) (filter p xs)) ≡ true
+    by true h e = ap (λ b. b && list_all p (filter p xs)) h ∙ e
+    by false h e = e
+
+pub all_push : {X : Type 0} (p : X → Bool) (xs : List X) (x : X) → list_all p xs ≡ true → p x ≡ true → list_all p (xs ++ x ∷ []) ≡ true
+all_push p xs x e h = list_all-append p xs (x ∷ []) ∙ ap (λ b. b && (p x && true)) e ∙ ap (λ b. b && true) h

@@ -1,0 +1,7 @@
+pub mod Content
+pub mod Latest
+pub mod Shown
+pub mod Lists
+pub mod Loans
+pub mod Names
+pub mod Marks

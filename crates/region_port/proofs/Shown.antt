@@ -1,0 +1,128 @@
+-- Lists of nodes, one entry more.
+use Rattle.std.proofs.Common.{◌≡◌, ℕ, ◌+◌, ◌≤◌, Bool, true, false, ◌&&◌, cond, List, [], ◌∷◌, ◌++◌, length, drop, map, refl, ap, sym, ◌∙◌, arith, append_assoc, length-append, Bor, take, get_or, ◌<◌}
+use Rattle.std.specs.Prelude.{Option, Some, None, nat_le, Result, Ok, Err, IfOk}
+use Rattle.std.proofs.lemmas.List.{take_more}
+use Rattle.std.specs.List.{list_all, find}
+use Rattle.std.specs.Option.{option_map, option_or}
+use Rattle.std.proofs.lemmas.List.Folds.{list_all-append}
+use mathlib.Core.Bool.{true≢false}
+use Rattle.std.specs.declared.vec.Vec.{Vec}
+use Rattle.std.specs.declared.alloc.Global.{Global}
+use Rattle.std.proofs.lemmas.List.{append-nil}
+use Rattle.std.proofs.lemmas.Bool.{leb-true, le-leb}
+use Rattle.std.proofs.lemmas.Option.{same_Some, none-some}
+use Rattle.std.specs.Cmp.{first_so, second_so}
+use Rattle.std.specs.Map.{lookup, keys_of}
+use Rattle.std.specs.BTreeMap.{is_at as is_at_key}
+use Rattle.std.specs.Ordering.{is_lt}
+use Rattle.std.specs.List.Sorted.{IsStrictlySortedBy}
+use Rattle.mat_path.specs.Order.{same_names_ties}
+use Rattle.mat_path.specs.Names.{is_rel, is_name, joined, is_prefix, same_names, path_cmp, rest_below}
+use Rattle.mat_tree.specs.Parts.{declared_by, Node}
+use Rattle.mat_tree.specs.Trees.{is_at, what_at, what_of}
+use Rattle.mat_tree.specs.declared.flat.What.{What}
+use Rattle.region_port.specs.declared.entry.Entry.{Entry}
+use Rattle.region_port.specs.Entries.{content_of, node_of}
+use Rattle.region_port.specs.Listing.{ascends, flat_from, flats_of, rels_of, shown}
+use Rattle.region_port.specs.Lists.{all_of}
+use Rattle.region_port.proofs.Names.{is_prefix-Decides, same_names-Decides, same_names-sym}
+use Rattle.region_port.proofs.Content.{content_of-push, content_of-append}
+
+longer : (x rest : List ℕ) → length rest ≤ length (x ++ 47 ∷ rest)
+longer x rest = omega (arith, length-append x (47 ∷ rest))
+
+-- the names behind others are no longer than all of them
+joined-tail : (x : List ℕ) (q : List (List ℕ)) → length (joined q) ≤ length (joined (x ∷ q))
+joined-tail x [] = omega arith
+joined-tail x (y ∷ q) = longer x (joined (y ∷ q))
+
+joined-behind : (p q : List (List ℕ)) → length (joined q) ≤ length (joined (p ++ q))
+joined-behind [] q = omega arith
+joined-behind (x ∷ p) q = omega (arith, joined-behind p q, joined-tail x (p ++ q))
+
+pub is_rel-behind : (p q : List (List ℕ)) → is_rel (p ++ q) ≡ true → is_rel q ≡ true
+is_rel-behind p q e =
+    let all = p ++ q in
+    let ab : (nat_le (length all) 64 && nat_le (length (joined all)) 1024) ≡ true = first_so (nat_le (length all) 64 && nat_le (length (joined all)) 1024) (list_all is_name all) e in
+    let a : length all ≤ 64 = leb-true (length all) 64 (first_so (nat_le (length all) 64) (nat_le (length (joined all)) 1024) ab) in
+    let b : length (joined all) ≤ 1024 = leb-true (length (joined all)) 1024 (second_so (nat_le (length all) 64) (nat_le (length (joined all)) 1024) ab) in
+    let c : (list_all is_name p && list_all is_name q) ≡ true = sym (list_all-append is_name p q) ∙ second_so (nat_le (length all) 64 && nat_le (length (joined all)) 1024) (list_all is_name all) e in
+    let d : list_all is_name q ≡ true = second_so (list_all is_name p) (list_all is_name q) c in
+    let fewer : length q ≤ 64 = omega (arith, length-append p q) in
+    let shorter : length (joined q) ≤ 1024 = omega (arith, joined-behind p q) in
+    ap (λ t. t && nat_le (length (joined q)) 1024 && list_all is_name q) (le-leb (length q) 64 fewer)
+    ∙ ap (λ t. t && list_all is_name q) (le-leb (length (joined q)) 1024 shorter) ∙ d
+
+-- a path that is below another is that one and then the names behind it
+pub below-some : (p q names : List (List ℕ)) → ◌≡◌ {A = Option (List (List ℕ))} (Some names) (rest_below p q) → q ≡ p ++ names
+below-some p q names = by (is_prefix p q) refl
+  where
+    by : (b : Bool) → is_prefix p q ≡ b → ◌≡◌ {A = Option (List (List ℕ))} (Some names) (cond b (Some (drop (length p) q)) None) → q ≡ p ++ names
+    by true k e = (is_prefix-Decides p q).0 k ∙ ap (λ r. p ++ r) (sym (same_Some names (drop (length p) q) e))
+    by false k e = absurd (none-some names (sym e))
+
+-- no rel leads to a path that isn't below
+pub below-none : (p q rel : List (List ℕ)) → ◌≡◌ {A = Option (List (List ℕ))} None (rest_below p q) → same_names q (p ++ rel) ≡ false
+below-none p q rel e = by (same_names q (p ++ rel)) refl
+  where
+    by : (b : Bool) → same_names q (p ++ rel) ≡ b → b ≡ false
+    by true k =
+        let h : is_prefix p q ≡ true = (is_prefix-Decides p q).1 rel ((same_names-Decides q (p ++ rel)).0 k) in
+        absurd (none-some (drop (length p) q) (e ∙ ap (λ b. cond b (Some (drop (length p) q)) None) h))
+    by false k = refl
+
+-- an entry more
+pub shown-push : (path : List (List ℕ)) (entries : List Entry) (entry : Entry) (rel : List (List ℕ)) → shown path (entries ++ entry ∷ []) rel ≡ cond (same_names entry.path (path ++ rel)) (Some (declared_by (node_of entry))) (shown path entries rel)
+shown-push path entries entry rel = ap (option_map declared_by) (content_of-push entries entry (path ++ rel)) ∙ by (same_names entry.path (path ++ rel))
+  where
+    by : (b : Bool) → option_map declared_by (cond b (Some (node_of entry)) (content_of entries (path ++ rel))) ≡ cond b (Some (declared_by (node_of entry))) (shown path entries rel)
+    by true = refl
+    by false = refl
+
+-- more entries
+pub shown-append : (path : List (List ℕ)) (xs ys : List Entry) (rel : List (List ℕ)) → shown path (xs ++ ys) rel ≡ option_or (shown path ys rel) (shown path xs rel)
+shown-append path xs ys rel = ap (option_map declared_by) (content_of-append xs ys (path ++ rel)) ∙ by (content_of ys (path ++ rel)) (content_of xs (path ++ rel))
+  where
+    by : (a b : Option Node) → option_map declared_by (option_or a b) ≡ option_or (option_map declared_by a) (option_map declared_by b)
+    by None b = refl
+    by (Some x) b = refl
+
+-- a segment more
+pub all_of-pushed : {X : Type 0} (segments : List (Bor (Vec X Global))) (segment : Bor (Vec X Global)) → all_of (map (λ s. s.now) (segments ++ segment ∷ [])) ≡ all_of (map (λ s. s.now) segments) ++ segment.now.items
+all_of-pushed [] segment = append-nil segment.now.items
+all_of-pushed (first ∷ segments) segment = ap (λ rest. first.now.items ++ rest) (all_of-pushed segments segment) ∙ sym (append_assoc first.now.items (all_of (map (λ s. s.now) segments)) segment.now.items)
+
+-- what a list of nodes has at a rel
+pub what_at-flats : (pairs : List (List (List ℕ) × What)) (rel : List (List ℕ)) → what_at (flats_of pairs) rel ≡ lookup (is_at_key (path_cmp rel)) pairs
+what_at-flats [] rel = refl
+what_at-flats (pair ∷ pairs) rel = by (same_names pair.0 rel) (is_at_key (path_cmp rel) pair.0) (same_names-sym pair.0 rel ∙ same_names_ties rel pair.0) (what_at-flats pairs rel)
+  where
+    by : (a b : Bool) → a ≡ b → option_map what_of (find (is_at rel) (flats_of pairs)) ≡ lookup (is_at_key (path_cmp rel)) pairs
+        → option_map what_of (cond a (Some (flat_from pair)) (find (is_at rel) (flats_of pairs))) ≡ cond b (Some pair.1) (lookup (is_at_key (path_cmp rel)) pairs)
+    by true true e h = refl
+    by true false e h = absurd (true≢false e)
+    by false true e h = absurd (true≢false (sym e))
+    by false false e h = h
+
+-- the rels of a map ascend
+pub ascends-flats : (pairs : List (List (List ℕ) × What)) → IsStrictlySortedBy path_cmp (keys_of pairs) → ascends (rels_of (flats_of pairs)) ≡ true
+unfolding IsStrictlySortedBy
+ascends-flats [] s = refl
+ascends-flats (pair ∷ []) s = refl
+ascends-flats (pair ∷ next ∷ pairs) s = ap (λ o. is_lt o && ascends (rels_of (flats_of (next ∷ pairs)))) s.0.0 ∙ ascends-flats (next ∷ pairs) s.1
+
+-- one more of a list of entries
+pub shown-more : (path : List (List ℕ)) (entries : List Entry) (i : ℕ) (entry : Entry) (rel : List (List ℕ)) (before : Option What) → i < length entries → entry ≡ get_or entries i entry
+    → cond (same_names entry.path (path ++ rel)) (Some (declared_by (node_of entry))) (option_or (shown path (take i entries) rel) before) ≡ option_or (shown path (take (i + 1) entries) rel) before
+shown-more path entries i entry rel before l e =
+    by (same_names entry.path (path ++ rel)) (shown path (take i entries) rel)
+    ∙ ap (λ s. option_or s before) (sym (ap (λ list. shown path list rel) (take_more entries i entry l ∙ ap (λ x. take i entries ++ x ∷ []) (sym e)) ∙ shown-push path (take i entries) entry rel))
+  where
+    by : (b : Bool) (s : Option What) → cond b (Some (declared_by (node_of entry))) (option_or s before) ≡ option_or (cond b (Some (declared_by (node_of entry))) s) before
+    by true s = refl
+    by false s = refl
+
+-- what follows where an answer is Ok
+pub IfOk-then : {T E : Type 0} (r : Result T E) (P Q : T → Type 0) → IfOk r P → ((x : T) → P x → Q x) → IfOk r Q
+IfOk-then (Ok x) P Q p f = f x p
+IfOk-then (Err e) P Q p f = tt

@@ -1,0 +1,35 @@
+-- What settling or emptying a part answers.
+use Rattle.std.specs.Prelude.{◌≡◌, Bool, true, false, List}
+use Rattle.mat_tree.specs.declared.flat.Flat.{Flat}
+use Rattle.region_port.specs.Calls.{Paths}
+use Rattle.region_port.specs.declared.port.Region.{Ghosts}
+use Rattle.region_port.specs.declared.states.Synced.{Synced}
+use Rattle.region_port.specs.declared.states.Synced.TheVariants as synced
+
+-- the region of an answer
+abbrev pub region_in : {R : Type 0} {g : Ghosts R} → Synced R g → R
+region_in (synced.Settled part) = part.region
+region_in (synced.Bare part) = part.region
+region_in (synced.Failed part) = part.region
+region_in (synced.NoMemory part) = part.region
+
+-- whether an answer is a failure
+abbrev pub sync_failed : {R : Type 0} {g : Ghosts R} → Synced R g → Bool
+sync_failed (synced.Settled part) = false
+sync_failed (synced.Bare part) = false
+sync_failed (synced.Failed part) = true
+sync_failed (synced.NoMemory part) = false
+
+-- a part that was to settle is settled with this tree, or as rough as it was
+abbrev pub Settles : {R : Type 0} {g : Ghosts R} → List Flat → Paths → Synced R g → Type 0
+Settles tree before (synced.Settled part) = part.tree ≡ tree
+Settles tree before (synced.Bare part) = ⊥
+Settles {R} {g} tree before (synced.Failed part) = g.rough part.region ≡ before
+Settles {R} {g} tree before (synced.NoMemory part) = g.rough part.region ≡ before
+
+-- a part that was to be bare is bare, or as rough as it was
+abbrev pub Empties : {R : Type 0} {g : Ghosts R} → Paths → Synced R g → Type 0
+Empties before (synced.Settled part) = ⊥
+Empties before (synced.Bare part) = Unit {0}
+Empties {R} {g} before (synced.Failed part) = g.rough part.region ≡ before
+Empties {R} {g} before (synced.NoMemory part) = g.rough part.region ≡ before

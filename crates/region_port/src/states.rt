@@ -1,0 +1,156 @@
+ghost use Rattle.std.specs.Prelude.{◌≡◌};
+ghost use Rattle.std.specs.Option.{ForSome};
+ghost use Rattle.mat_tree.specs.Parts.{Holds, bare};
+ghost use Rattle.region_port.specs.Calls.{nowhere};
+
+use crate::port::Region;
+use mat_io::Did;
+use mat_path::Path;
+use mat_tree::Tree;
+
+/// A part with any content, which may be rough.
+#[derive(Drop)]
+pub struct Rough<R: Region> {
+    /// The region, for its calls.
+    pub region: R,
+}
+
+/// A part that holds just a tree, and survives a crash.
+#[derive(Drop)]
+pub struct Settled<R: Region> {
+    region: R,
+    tree: Tree,
+    ghost holds: { ForSome (R.part region) (λ part. Holds part tree) },
+    ghost settled: { R.rough region ≡ nowhere },
+}
+
+/// A part with no node, which survives a crash.
+#[derive(Drop)]
+pub struct Bare<R: Region> {
+    region: R,
+    ghost empty: { ForSome (R.part region) (λ part. part ≡ bare) },
+    ghost settled: { R.rough region ≡ nowhere },
+}
+
+/// A part in any of its states.
+#[derive(Drop)]
+pub enum Part<R: Region> {
+    Rough(Rough<R>),
+    Settled(Settled<R>),
+    Bare(Bare<R>),
+}
+
+/// What one sync made of a part. Where it failed or memory was wanting, the part comes back.
+#[derive(Drop)]
+pub enum Synced<R: Region> {
+    Settled(Settled<R>),
+    Bare(Bare<R>),
+    Failed(Rough<R>),
+    NoMemory(Rough<R>),
+}
+
+impl<R: Region> Rough<R> {
+    ghost use Rattle.mat_io.specs.Causes.{HasCause};
+    ghost use Rattle.region_port.specs.States.{Empties, Settles, region_in, sync_failed};
+
+    /// The part of this region. Takes no memory.
+    pub fn new(region: R) -> Rough<R>
+        ensures { result.region ≡ region }
+    {
+        Rough { region }
+    }
+
+    /// Where the part stands. Takes no memory.
+    pub fn path(&self) -> &Path
+        ensures { result.now ≡ R.place self.now.region }
+    {
+        self.region.path()
+    }
+
+    /// The region. Takes no memory.
+    pub fn into_region(self) -> R
+        ensures { result ≡ self.region }
+    {
+        let Rough { region } = self;
+        region
+    }
+
+    /// Makes one sync, and keeps the tree that the part holds where it is done.
+    pub fn settle(self, tree: Tree) -> Synced<R>
+        requires { ForSome (R.part self.region) (λ part. Holds part tree) }
+        ensures place { R.place (region_in result) ≡ R.place self.region }
+        ensures part { R.part (region_in result) ≡ R.part self.region }
+        ensures settles { Settles tree (R.rough self.region) result }
+        ensures cause { HasCause (R.fault_count self.region) (R.fault_count (region_in result)) (sync_failed result) }
+    {
+        let Rough { mut region } = self;
+        match region.sync() {
+            Did::Done => Synced::Settled(Settled { region, tree }),
+            Did::Failed => Synced::Failed(Rough { region }),
+            Did::NoMemory => Synced::NoMemory(Rough { region }),
+        }
+    }
+
+    /// Makes one sync of a part that has no node.
+    pub fn empty(self) -> Synced<R>
+        requires { ForSome (R.part self.region) (λ part. part ≡ bare) }
+        ensures place { R.place (region_in result) ≡ R.place self.region }
+        ensures part { R.part (region_in result) ≡ R.part self.region }
+        ensures empties { Empties (R.rough self.region) result }
+        ensures cause { HasCause (R.fault_count self.region) (R.fault_count (region_in result)) (sync_failed result) }
+    {
+        let Rough { mut region } = self;
+        match region.sync() {
+            Did::Done => Synced::Bare(Bare { region }),
+            Did::Failed => Synced::Failed(Rough { region }),
+            Did::NoMemory => Synced::NoMemory(Rough { region }),
+        }
+    }
+}
+
+impl<R: Region> Settled<R> {
+    /// The tree that the part holds. Takes no memory.
+    pub fn tree(&self) -> &Tree
+        ensures tree { result.now ≡ self.now.tree }
+        ensures holds { ForSome (R.part self.now.region) (λ part. Holds part self.now.tree) }
+        ensures settled { R.rough self.now.region ≡ nowhere }
+    {
+        &self.tree
+    }
+
+    /// Where the part stands. Takes no memory.
+    pub fn path(&self) -> &Path
+        ensures { result.now ≡ R.place self.now.region }
+    {
+        self.region.path()
+    }
+
+    /// The region, without its tree. Takes no memory.
+    pub fn into_region(self) -> R
+        ensures region { result ≡ self.region }
+        ensures holds { ForSome (R.part result) (λ part. Holds part self.tree) }
+        ensures settled { R.rough result ≡ nowhere }
+    {
+        let Settled { region, tree: _ } = self;
+        region
+    }
+}
+
+impl<R: Region> Bare<R> {
+    /// Where the part stands. Takes no memory.
+    pub fn path(&self) -> &Path
+        ensures { result.now ≡ R.place self.now.region }
+    {
+        self.region.path()
+    }
+
+    /// The region. Takes no memory.
+    pub fn into_region(self) -> R
+        ensures region { result ≡ self.region }
+        ensures empty { ForSome (R.part result) (λ part. part ≡ bare) }
+        ensures settled { R.rough result ≡ nowhere }
+    {
+        let Bare { region } = self;
+        region
+    }
+}
