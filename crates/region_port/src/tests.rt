@@ -10,7 +10,7 @@ use crate::port::{Disk, Region};
 use crate::states::{Rough, Synced};
 use mat_digest::Digest;
 use mat_io::{Arm, Did};
-use mat_path::{Memory, Path, Rel};
+use mat_path::{Memory, Path, Rel, Target};
 use mat_tree::What;
 use std::alloc::Global;
 use std::test::Fail;
@@ -34,6 +34,32 @@ fn put<R: Region>(region: &mut R, rel: &Rel, exec: bool, bytes: &[u8]) -> Did
         Ok(path) => {
             let _names = path.names();
             region.put_file(rel, exec, bytes)
+        }
+        Err(_) => Did::NoMemory,
+    }
+}
+
+/// Puts a directory, through the bound.
+fn put_folder<R: Region>(region: &mut R, rel: &Rel) -> Did
+    ensures { R.place region.new ≡ R.place region.old }
+{
+    match region.path().join(rel) {
+        Ok(path) => {
+            let _names = path.names();
+            region.put_dir(rel)
+        }
+        Err(_) => Did::NoMemory,
+    }
+}
+
+/// Puts a link, through the bound.
+fn put_link<R: Region>(region: &mut R, rel: &Rel, target: &Target) -> Did
+    ensures { R.place region.new ≡ R.place region.old }
+{
+    match region.path().join(rel) {
+        Ok(path) => {
+            let _names = path.names();
+            region.put_link(rel, target)
         }
         Err(_) => Did::NoMemory,
     }
@@ -109,6 +135,30 @@ fn what_is_put_is_on_the_disk(rt: HostRuntime) -> Result<(), Fail> {
     }
     assert_eq!(rt; Disk::faults(&disk), 0);
     assert_eq!(rt; disk.calls(), 2);
+    Ok(())
+}
+
+#[test]
+fn a_folder_and_a_link_are_on_the_disk(rt: HostRuntime) -> Result<(), Fail> {
+    let alloc = rt.alloc();
+    let mut disk = MemDisk::new(alloc);
+    let path = Path::read(alloc, b"out")?;
+    let target = Target::read(alloc, b"../lib")?;
+    assert!(rt; !disk.lent(&path));
+    let mut region = disk.take(&path)?;
+    let folder = put_folder(&mut region, &rel_of(alloc, b".")?);
+    let link = put_link(&mut region, &rel_of(alloc, b"link")?, &target);
+    disk.give(region);
+    assert_eq!(rt; folder, Did::Done);
+    assert_eq!(rt; link, Did::Done);
+    assert!(rt; !disk.lent(&path));
+    let nodes = disk.nodes(&path)?;
+    assert_eq!(rt; nodes.len(), 2);
+    assert!(rt; matches!(&nodes[0].what, What::Dir));
+    match &nodes[1].what {
+        What::Link(found) => assert!(rt; *found == target),
+        _ => assert!(rt; false, "a link"),
+    }
     Ok(())
 }
 
