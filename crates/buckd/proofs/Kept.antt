@@ -23,11 +23,14 @@ use Rattle.region_port.specs.Disks.{disk_content}
 use Rattle.region_port.specs.Listing.{ascends, rels_of}
 use Rattle.buckd.specs.declared.daemon.Daemon.{Daemon}
 use Rattle.buckd.specs.declared.items.Item.TheVariants as item
+use Rattle.buckd.specs.declared.items.Line.{Line}
 use Rattle.buckd.specs.Daemon.{point_of, Steps, Tells}
-use Rattle.buckd.specs.Run.{Point, asked_of, drain, entry_at, is_not_yet, make_first, makes, step, tell_item, tell_step, told_not_yet, told_since}
-use Rattle.buckd.specs.Sound.{AreWritten, kept_by, is_answered_before, IsKept, IsPast, IsSound, KeepsRows}
+use Rattle.buckd.specs.Run.{Point, asked_of, drain, entry_at, is_not_yet, make_first, makes, step, tell, tell_item, tell_step, told_not_yet, told_since}
+use Rattle.buckd.specs.Sound.{AreWritten, kept_by, is_answered_before, IsKept, IsPast, IsReady, IsSound, KeepsRows}
+use Rattle.buckd.specs.Legal.{IsLegalAt}
 use Rattle.buckd.specs.Texts.{answer_lines, reply_text, shown_text}
 use Rattle.buckd.proofs.Past.{past-answer_lines, past-more}
+use Rattle.buckd.proofs.LegalRuns.{tell-at}
 use Rattle.buckd.proofs.Seen.{listed-seen}
 use Rattle.buckd.proofs.Stepping.{make_first-none, makes-none, makes-suc}
 use Rattle.buckd.proofs.Written.{written-used, written-put_row, written-files}
@@ -77,7 +80,7 @@ kept-declared old new row bytes kept clear rows lies is keeps at disk live state
 
 -- a daemon is sound after a step that answered no ticket
 pub sound-stepped : (happened : Event) (before after : Daemon) (given : Reply) → Steps (step happened (point_of before)) after given →
-    IsKept after → IsPast (length before.history.items) after → IsSound after
+    IsKept after → IsPast (length before.history.items) after → IsReady after
 sound-stepped happened before after given steps kept past =
     let grown : length after.history.items ≡ length before.history.items + 1 =
     ap (λ (p : Point). length p.history) steps.point
@@ -161,3 +164,16 @@ pub drained-none : (count : ℕ) (d0 before after : Point) → makes count befor
     first_task before.book.rows before.book.tickets ≡ None → after ≡ make_first before → after ≡ drain d0
 drained-none count d0 before after left none made =
     made ∙ make_first-none before none ∙ sym (makes-none count before none) ∙ left
+
+-- two facts that hold where a call did its work give a third
+pub on_ok_both : {T E P Q R : Type 0} (r : Result T E) → (P → Q → R) → OnOk r P → OnOk r Q → OnOk r R
+on_ok_both (Ok value) more first second = more first second
+on_ok_both (Err error) more first second = tt
+
+-- a daemon that answered a line and is ready for the next is sound
+pub sound-told : (read : Line) (old new : Daemon) (first last : List ℕ) → IsSound old → Tells (tell read (point_of old)) new first last →
+    IsReady new → IsSound new
+sound-told read old new first last sound told ready = record {
+  ready = ready;
+  legal = subst (λ (point : Point). IsLegalAt point) (sym told.point) (tell-at read (point_of old) sound.legal);
+}

@@ -3,8 +3,11 @@ pub mod TextsLemmas
 pub mod RowLemmas
 pub mod Seen
 pub mod LineLemmas
+pub mod RunLemmas
+pub mod ReplayLemmas
 pub mod Past
 pub mod Stepping
 pub mod Written
 pub mod Kept
 pub mod MadeLemmas
+pub mod LegalRuns

@@ -29,7 +29,7 @@ use Rattle.buckd.specs.declared.daemon.Daemon.{Daemon}
 use Rattle.buckd.specs.Daemon.{book_of, point_of, Serves}
 use Rattle.buckd.specs.Making.{file_part}
 use Rattle.buckd.specs.Run.{Point, entry_at, made}
-use Rattle.buckd.specs.Sound.{AreWritten, is_answered_before, kept_by, IsKept, IsPast, IsSound, KeepsBook, KeepsDisk, KeepsRows}
+use Rattle.buckd.specs.Sound.{AreWritten, is_answered_before, kept_by, IsKept, IsPast, IsReady, KeepsBook, KeepsDisk, KeepsRows}
 use Rattle.buckd.proofs.Past.{past-more, past-answered}
 use Rattle.buckd.proofs.Stepping.{begun, made_so, made-is}
 use Rattle.buckd.proofs.Written.{written_at, written-standing}
@@ -166,7 +166,7 @@ kept-rows d3 d4 keeps kept = record {
 }
 
 -- a daemon is sound once it made the row that comes first, and entered that
-pub made-sound : (d0 d2 d3 d4 : Daemon) (path : List (List ℕ)) (stamp : ℕ) (given : Reply) → IsSound d0 →
+pub made-sound : (d0 d2 d3 d4 : Daemon) (path : List (List ℕ)) (stamp : ℕ) (given : Reply) → IsReady d0 →
     first_task d0.rows.items d0.tickets.items ≡ Some (task.Make path stamp) →
     d2.history.items ≡ begun d0.history.items (task.Make path stamp) →
     d2.rows ≡ d0.rows → d2.held ≡ d0.held → d2.live ≡ d0.live → d2.state ≡ d0.state → d2.tickets ≡ d0.tickets → d2.disk.loans.items ≡ [] →
@@ -175,7 +175,7 @@ pub made-sound : (d0 d2 d3 d4 : Daemon) (path : List (List ℕ)) (stamp : ℕ) (
     Serves (end_make (length d2.history.items) path outcome.Made (book_of d2) (find (is_declared path stamp) d2.rows.items)) d2 d3 given →
     KeepsDisk d2 d3 → KeepsRows d3 d4 → d4.tickets ≡ d3.tickets →
     d4.history.items ≡ d3.history.items ++ entry_at (length d3.history.items) (event.Done (length d0.history.items) outcome.Made) given ∷ [] →
-    IsSound d4
+    IsReady d4
 made-sound d0 d2 d3 d4 path stamp given sound first begins same_rows same_held same_live same_state same_tickets free content served keeps same tickets ends =
     let count : length d2.history.items ≡ length d0.history.items + 1 =
     ap (λ (l : List Entry). length l) begins

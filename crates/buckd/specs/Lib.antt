@@ -3,6 +3,8 @@ pub mod Items
 pub mod Texts
 pub mod Run
 pub mod Daemon
+pub mod Legal
 pub mod Sound
 pub mod Making
 pub mod Streams
+pub mod Replay

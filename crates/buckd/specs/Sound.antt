@@ -13,6 +13,8 @@ use Rattle.mat_model.specs.Holding.{IsTied}
 use Rattle.mat_model.specs.Rows.{are_apart}
 use Rattle.region_port.specs.Disks.{disk_content}
 use Rattle.buckd.specs.declared.daemon.Daemon.{Daemon}
+use Rattle.buckd.specs.Daemon.{point_of}
+use Rattle.buckd.specs.Legal.{IsLegalAt}
 
 -- the bytes that are kept for the row at a path
 abbrev pub Kept : Type 0
@@ -51,10 +53,15 @@ pub record IsKept (d : Daemon) : Type 0 where
 abbrev pub IsPast : ℕ → Daemon → Type 0
 IsPast number d = list_all (is_answered_before number) d.tickets.items ≡ true
 
--- a daemon between two lines: no ticket was answered by an entry that is still to come
-pub record IsSound (d : Daemon) : Type 0 where
+-- a daemon that may serve: no ticket was answered by an entry that is still to come
+pub record IsReady (d : Daemon) : Type 0 where
   pub kept : IsKept d
   pub past : IsPast (length d.history.items) d
+
+-- a daemon between two lines: its history is legal, and its book is the book of it
+pub record IsSound (d : Daemon) : Type 0 where
+  pub ready : IsReady d
+  pub legal : IsLegalAt (point_of d)
 
 -- nothing changed but the holds, the tickets and the history
 pub record KeepsRows (old new : Daemon) : Type 0 where

@@ -131,14 +131,15 @@ fn enter_event(history: &mut Vec<Entry>, event: Event, reply: Reply) -> Result<(
 
 impl Daemon {
     ghost use Rattle.buckd.specs.Daemon.{book_of, point_of, task_for, Serves, Steps, Tells};
+    ghost use Rattle.buckd.specs.Legal.{IsLegalRun};
     ghost use Rattle.buckd.specs.Run.{asked_of, drain, is_not_yet, made, make_first, start, step, tell, tell_item};
     ghost use Rattle.buckd.specs.declared.items.Item.TheVariants as item;
-    ghost use Rattle.buckd.specs.Sound.{kept_by, IsKept, IsPast, IsSound, KeepsBook, KeepsDisk, KeepsRows};
+    ghost use Rattle.buckd.specs.Sound.{kept_by, IsKept, IsPast, IsReady, IsSound, KeepsBook, KeepsDisk, KeepsRows};
 
     /// A daemon over an empty disk.
-    pub fn new(alloc: Global) -> Daemon
+    fn empty(alloc: Global) -> Daemon
         ensures start { point_of result ≡ start }
-        ensures sound { IsSound result }
+        ensures ready { IsReady result }
     {
         Daemon {
             state: None,
@@ -152,9 +153,17 @@ impl Daemon {
         }
     }
 
+    /// A daemon over an empty disk.
+    pub fn new(alloc: Global) -> Daemon
+        ensures start { point_of result ≡ start }
+        ensures sound { IsSound result }
+    {
+        Daemon::empty(alloc)
+    }
+
     /// What is left of the daemon.
-    pub fn into_parts(self, alloc: Global) -> (Run, MemDisk)
-        requires { IsSound self }
+    fn into_run(self, alloc: Global) -> (Run, MemDisk)
+        requires { IsReady self }
         ensures book { result.0.book ≡ (point_of self).book }
         ensures history { result.0.history ≡ (point_of self).history }
         ensures held { AreHeld (disk_content result.1) result.0.book.rows }
@@ -182,6 +191,17 @@ impl Daemon {
         };
         let history = Items::of(history);
         (Run { book, history }, disk)
+    }
+
+    /// What is left of the daemon: its run, and the disk that holds what the book says stands.
+    pub fn into_parts(self, alloc: Global) -> (Run, MemDisk)
+        requires { IsSound self }
+        ensures book { result.0.book ≡ (point_of self).book }
+        ensures history { result.0.history ≡ (point_of self).history }
+        ensures held { AreHeld (disk_content result.1) result.0.book.rows }
+        ensures legal { IsLegalRun result.0 }
+    {
+        self.into_run(alloc)
     }
 
     /// The number of the next entry.
@@ -424,9 +444,9 @@ impl Daemon {
     /// Makes the row that comes first.
     fn make(&mut self, path: Path, stamp: u64) -> Result<(), Memory>
         requires first { first_task self.old.rows.items self.old.tickets.items ≡ Some (task.Make path stamp) }
-        requires sound { IsSound self.old }
+        requires sound { IsReady self.old }
         ensures point { OnOk result (point_of self.new ≡ made (task.Make path stamp) (point_of self.old)) }
-        ensures sound { OnOk result (IsSound self.new) }
+        ensures sound { OnOk result (IsReady self.new) }
     {
         let job = self.number();
         let task = Task::Make {
@@ -445,10 +465,10 @@ impl Daemon {
 
     /// Makes the row of the lowest open ticket, if there is one, and says whether there was.
     fn make_first(&mut self) -> Result<bool, Memory>
-        requires { IsSound self.old }
+        requires { IsReady self.old }
         ensures point { OnOk result (point_of self.new ≡ make_first (point_of self.old)) }
         ensures none { IfOk result (λ more. more ≡ false → first_task self.old.rows.items self.old.tickets.items ≡ None) }
-        ensures sound { OnOk result (IsSound self.new) }
+        ensures sound { OnOk result (IsReady self.new) }
     {
         match self.first_make()? {
             Some((path, stamp)) => {
@@ -461,9 +481,9 @@ impl Daemon {
 
     /// Makes each row that has an open ticket, the one with the lowest ticket first.
     fn drain(&mut self) -> Result<(), Memory>
-        requires { IsSound self.old }
+        requires { IsReady self.old }
         ensures point { OnOk result (point_of self.new ≡ drain (point_of self.old)) }
-        ensures sound { OnOk result (IsSound self.new) }
+        ensures sound { OnOk result (IsReady self.new) }
     {
         let count = tickets::open_count(self.tickets.as_slice());
         for done in 0..count {
@@ -477,9 +497,9 @@ impl Daemon {
 
     /// Answers a request.
     fn tell_request(&mut self, request: Request, out: &mut Vec<u8>) -> Result<(), Memory>
-        requires { IsSound self.old }
+        requires { IsReady self.old }
         ensures told { OnOk result (Tells (tell_item (item.Request request) (point_of self.old)) self.new out.old.items out.new.items) }
-        ensures sound { OnOk result (IsSound self.new) }
+        ensures sound { OnOk result (IsReady self.new) }
     {
         if self.is_not_yet(&request) {
             return texts::push_text(out, b"notyet\n");
@@ -491,9 +511,9 @@ impl Daemon {
 
     /// Drains, and tells the tickets that were answered.
     fn tell_drain(&mut self, out: &mut Vec<u8>) -> Result<(), Memory>
-        requires { IsSound self.old }
+        requires { IsReady self.old }
         ensures told { OnOk result (Tells (tell_item item.Drain (point_of self.old)) self.new out.old.items out.new.items) }
-        ensures sound { OnOk result (IsSound self.new) }
+        ensures sound { OnOk result (IsReady self.new) }
     {
         let before = self.number();
         self.drain()?;
@@ -504,7 +524,7 @@ impl Daemon {
 
     /// Tells what the disk has at and below a path.
     fn tell_show(&self, path: &Path, out: &mut Vec<u8>) -> Result<(), Memory>
-        requires { IsSound self.now }
+        requires { IsReady self.now }
         ensures { OnOk result (Tells (tell_item (item.Show path.now) (point_of self.now)) self.now out.old.items out.new.items) }
     {
         let nodes = self.disk.nodes(path)?;
@@ -513,9 +533,9 @@ impl Daemon {
 
     /// Answers an item.
     fn tell_item(&mut self, item: Item, out: &mut Vec<u8>) -> Result<(), Memory>
-        requires { IsSound self.old }
+        requires { IsReady self.old }
         ensures told { OnOk result (Tells (tell_item item (point_of self.old)) self.new out.old.items out.new.items) }
-        ensures sound { OnOk result (IsSound self.new) }
+        ensures sound { OnOk result (IsReady self.new) }
     {
         match item {
             Item::Request(request) => self.tell_request(request, out),
@@ -525,10 +545,10 @@ impl Daemon {
     }
 
     /// Answers a line.
-    pub fn tell(&mut self, line: Line, out: &mut Vec<u8>) -> Result<(), Memory>
-        requires { IsSound self.old }
+    fn tell_line(&mut self, line: Line, out: &mut Vec<u8>) -> Result<(), Memory>
+        requires { IsReady self.old }
         ensures told { OnOk result (Tells (tell line (point_of self.old)) self.new out.old.items out.new.items) }
-        ensures sound { OnOk result (IsSound self.new) }
+        ensures sound { OnOk result (IsReady self.new) }
     {
         match line {
             Line::Skip => Ok(()),
@@ -536,5 +556,14 @@ impl Daemon {
             Line::NotYet => texts::push_text(out, b"notyet\n"),
             Line::Item(item) => self.tell_item(item, out),
         }
+    }
+
+    /// Answers a line.
+    pub fn tell(&mut self, line: Line, out: &mut Vec<u8>) -> Result<(), Memory>
+        requires { IsSound self.old }
+        ensures told { OnOk result (Tells (tell line (point_of self.old)) self.new out.old.items out.new.items) }
+        ensures sound { OnOk result (IsSound self.new) }
+    {
+        self.tell_line(line, out)
     }
 }

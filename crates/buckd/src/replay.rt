@@ -1,11 +1,17 @@
 // A script from its source to its end.
-ghost use Rattle.std.specs.Prelude.{◌≡◌, ◌<◌, ◌≤◌};
+ghost use Rattle.std.specs.Prelude.{◌≡◌, ◌<◌, [], ℕ, true, length, List, Option};
+ghost use Rattle.mat_io.specs.Answers.{got_failed};
+ghost use Rattle.mat_io.specs.Streams.{Reads};
+ghost use Rattle.mat_io.specs.Causes.{HasCause};
+ghost use Rattle.buckd.specs.Daemon.{point_of};
 ghost use Rattle.buckd.specs.Sound.{IsSound};
-ghost use Rattle.buckd.specs.Streams.{IsSoundAtEnd};
+ghost use Rattle.buckd.specs.Streams.{Stands};
+ghost use Rattle.buckd.specs.Replay.{IsFinished, IsSoundAtEnd, IsWithin, Leaves, LeavesAt, Ran, Replays, end_of, input_failed, input_limit, is_lost, is_sink_fault, is_source_fault, is_status, output_failed, status_of};
 
 use crate::daemon::Run;
+use crate::output::flush;
 use crate::session::{Fed, Session};
-use mat_io::{Got, Sink, Source};
+use mat_io::{Got, Put, Sink, Source};
 use region_port::MemDisk;
 use std::alloc::Global;
 
@@ -44,17 +50,31 @@ enum Ending {
     Cut,
 }
 
-impl Ending {
-    /// The status of the program.
-    fn status(self) -> u8 {
-        match self {
-            Ending::End => 0,
-            Ending::NoMemory => 1,
-            Ending::SourceFault => 3,
-            Ending::SinkFault => 4,
-            Ending::NoEnd => 5,
-            Ending::Cut => 7,
-        }
+// The status of the program.
+fn status_of(ending: Ending) -> u8
+    ensures { result ≡ status_of ending }
+{
+    match ending {
+        Ending::End => 0,
+        Ending::NoMemory => 1,
+        Ending::SourceFault => 3,
+        Ending::SinkFault => 4,
+        Ending::NoEnd => 5,
+        Ending::Cut => 7,
+    }
+}
+
+// Whether nothing more goes out.
+fn is_lost(ending: Ending) -> bool
+    ensures { result ≡ is_lost ending }
+{
+    match ending {
+        Ending::End => false,
+        Ending::NoMemory => true,
+        Ending::SourceFault => false,
+        Ending::SinkFault => true,
+        Ending::NoEnd => false,
+        Ending::Cut => false,
     }
 }
 
@@ -66,25 +86,36 @@ pub fn replay<S: Source, T: Sink>(
     output: &mut T,
 ) -> Ended
     requires { workers ≡ 1 }
+    ensures replays { Replays input_limit (S.left input.old) (S.left input.new) (T.out output.old) (T.out output.new) result }
+    ensures status { is_status result.status ≡ true }
+    ensures leaves { Leaves result }
+    ensures source { HasCause (S.faults input.old) (S.faults input.new) (input_failed result) }
+    ensures sink { HasCause (T.faults output.old) (T.faults output.new) (output_failed result) }
 {
     let _ = workers;
     run_within(alloc, INPUT_LIMIT, input, output)
 }
 
-/// The same, with a limit of its own on the bytes of the script.
-fn run_within<S: Source, T: Sink>(
+// The same, with a limit of its own on the bytes of the script.
+pub(crate) fn run_within<S: Source, T: Sink>(
     alloc: Global,
     limit: u64,
     input: &mut S,
     output: &mut T,
-) -> Ended {
+) -> Ended
+    ensures replays { Replays limit (S.left input.old) (S.left input.new) (T.out output.old) (T.out output.new) result }
+    ensures status { is_status result.status ≡ true }
+    ensures leaves { Leaves result }
+    ensures source { HasCause (S.faults input.old) (S.faults input.new) (input_failed result) }
+    ensures sink { HasCause (T.faults output.old) (T.faults output.new) (output_failed result) }
+{
     let mut session = Session::new(alloc);
-    let ending = read_all(alloc, &mut session, limit, input, output);
-    let ending = finish(&mut session, ending, output);
+    let ran = read_all(alloc, &mut session, limit, input, output);
+    let ending = finish(&mut session, ran, output);
     make_ended(alloc, session, ending)
 }
 
-/// Reads a script and serves its lines.
+// Reads a script and serves its lines.
 fn read_all<S: Source, T: Sink>(
     alloc: Global,
     session: &mut Session,
@@ -92,16 +123,39 @@ fn read_all<S: Source, T: Sink>(
     input: &mut S,
     output: &mut T,
 ) -> Ending
-    requires { IsSound session.old.daemon }
+    requires sound { IsSound session.old.daemon }
+    requires start { Stands [] (T.out output.old) (T.out output.old) session.old }
+    ensures ran { Ran limit (S.left input.old) (S.left input.new) (T.out output.old) (T.out output.new) session.new result }
     ensures sound { IsSoundAtEnd result session.new.daemon }
+    ensures source { HasCause (S.faults input.old) (S.faults input.new) (is_source_fault result) }
+    ensures sink { HasCause (T.faults output.old) (T.faults output.new) (is_sink_fault result) }
 {
-    let Ok(mut buffer) = vec![in alloc; 0u8; CHUNK] else {
-        return Ending::NoMemory;
-    };
+    match vec![in alloc; 0u8; CHUNK] {
+        Ok(mut buffer) => read_with(alloc, session, buffer.as_mut_slice(), limit, input, output),
+        Err(_) => Ending::NoMemory,
+    }
+}
+
+// The same, with room for the bytes that are read at a time.
+fn read_with<S: Source, T: Sink>(
+    alloc: Global,
+    session: &mut Session,
+    buffer: &mut [u8],
+    limit: u64,
+    input: &mut S,
+    output: &mut T,
+) -> Ending
+    requires sound { IsSound session.old.daemon }
+    requires start { Stands [] (T.out output.old) (T.out output.old) session.old }
+    requires room { length buffer.old ≡ CHUNK }
+    ensures ran { Ran limit (S.left input.old) (S.left input.new) (T.out output.old) (T.out output.new) session.new result }
+    ensures sound { IsSoundAtEnd result session.new.daemon }
+    ensures source { HasCause (S.faults input.old) (S.faults input.new) (is_source_fault result) }
+    ensures sink { HasCause (T.faults output.old) (T.faults output.new) (is_sink_fault result) }
+{
     let mut left = limit;
-    while left > 0 {
-        let most = left.min(CHUNK as u64) as usize;
-        match input.read(&mut buffer[..most]) {
+    'chunks: while left > 0 {
+        match read_piece(buffer, left, input) {
             Got::Taken(count) => {
                 left -= count as u64;
                 match session.feed(alloc, &buffer[..count], output) {
@@ -111,19 +165,30 @@ fn read_all<S: Source, T: Sink>(
                     Fed::NoMemory => return Ending::NoMemory,
                 }
             }
-            Got::End => return read_last(alloc, session),
+            Got::End => return end_all(session.feed_last(alloc)),
             Got::Failed => return Ending::SourceFault,
         }
     }
     Ending::Cut
 }
 
-/// Serves the last line of a script, which no newline ends.
-fn read_last(alloc: Global, session: &mut Session) -> Ending
-    requires { IsSound session.old.daemon }
-    ensures sound { IsSoundAtEnd result session.new.daemon }
+// Reads the next bytes, as far as there is room for them and they may be read.
+fn read_piece<S: Source>(buffer: &mut [u8], left: u64, input: &mut S) -> Got
+    requires room { length buffer.old ≡ CHUNK }
+    requires some { 0 < left }
+    ensures reads { Reads (S.left input.old) (S.left input.new) buffer.new result }
+    ensures within { IsWithin left result }
+    ensures cause { HasCause (S.faults input.old) (S.faults input.new) (got_failed result) }
 {
-    match session.feed_last(alloc) {
+    let most = left.min(CHUNK as u64) as usize;
+    input.read(&mut buffer[..most])
+}
+
+// Why a run ended whose last line left it here.
+fn end_all(fed: Fed) -> Ending
+    ensures { result ≡ end_of fed }
+{
+    match fed {
         Fed::Ended => Ending::End,
         Fed::Going => Ending::NoEnd,
         Fed::Failed => Ending::SinkFault,
@@ -131,27 +196,32 @@ fn read_last(alloc: Global, session: &mut Session) -> Ending
     }
 }
 
-/// Lets the text that is left go out, unless the run is lost.
+// Lets the text that is left go out, unless the run is lost.
 fn finish<T: Sink>(session: &mut Session, ending: Ending, output: &mut T) -> Ending
     requires { IsSoundAtEnd ending session.old.daemon }
+    ensures ran { (limit : ℕ) (bytes left before : Option (List ℕ)) → Ran limit bytes left before (T.out output.old) session.old ending → Ran limit bytes left before (T.out output.new) session.new result }
+    ensures out { IsFinished result session.new.gathered.items }
     ensures sound { IsSoundAtEnd result session.new.daemon }
+    ensures source { is_source_fault result ≡ true → is_source_fault ending ≡ true }
+    ensures sink { (before : ℕ) → HasCause before (T.faults output.old) (is_sink_fault ending) → HasCause before (T.faults output.new) (is_sink_fault result) }
 {
-    if ending == Ending::NoMemory || ending == Ending::SinkFault {
+    if is_lost(ending) {
         return ending;
     }
-    match session.flush(output) {
-        Fed::Failed => Ending::SinkFault,
-        Fed::NoMemory => Ending::NoMemory,
-        Fed::Going => ending,
-        Fed::Ended => ending,
+    match flush(&mut session.gathered, output) {
+        Put::All => ending,
+        Put::Failed => Ending::SinkFault,
+        Put::NoMemory => Ending::NoMemory,
     }
 }
 
-/// What is left of a run that ended.
+// What is left of a run that ended.
 fn make_ended(alloc: Global, session: Session, ending: Ending) -> Ended
     requires { IsSoundAtEnd ending session.daemon }
+    ensures status { result.status ≡ status_of ending }
+    ensures leaves { LeavesAt ending (point_of session.daemon) result }
 {
-    let status = ending.status();
+    let status = status_of(ending);
     if ending == Ending::NoMemory {
         return Ended {
             status,

@@ -1,11 +1,13 @@
 // A run in progress: the daemon, the text that waits to go out, and the line that isn't whole yet.
-ghost use Rattle.std.specs.Prelude.{◌≡◌, OnOk};
-ghost use Rattle.buckd.specs.Sound.{IsSound};
+ghost use Rattle.std.specs.Prelude.{◌≡◌, ◌∷◌, ◌++◌, ◌-◌, [], ℕ, false, length, take, List, Option, IfOk};
+ghost use Rattle.mat_io.specs.Causes.{HasCause};
+ghost use Rattle.buckd.specs.Lines.{IsLine, lines_of};
+ghost use Rattle.buckd.specs.Streams.{ends, gone_to, kept};
 
 use crate::daemon::Daemon;
 use crate::items::{Line, read_line};
 use crate::lines::{cut_line, keep};
-use crate::output::{flush, flush_enough};
+use crate::output::flush_enough;
 use mat_io::{Put, Sink};
 use mat_path::Memory;
 use std::alloc::Global;
@@ -32,11 +34,13 @@ pub struct Session {
 }
 
 impl Session {
-    ghost use Rattle.buckd.specs.Streams.{IsSoundAfter};
+    ghost use Rattle.buckd.specs.Sound.{IsSound};
+    ghost use Rattle.buckd.specs.Streams.{FeedsLast, Feeds, IsSoundAfter, Serves, Stands, fed_failed};
 
     /// A run that begins.
     pub fn new(alloc: Global) -> Session
-        ensures { IsSound result.daemon }
+        ensures sound { IsSound result.daemon }
+        ensures start { (out : Option (List ℕ)) → Stands [] out out result }
     {
         Session {
             daemon: Daemon::new(alloc),
@@ -45,10 +49,10 @@ impl Session {
         }
     }
 
-    /// Serves the line that is whole now.
+    // Serves the line that is kept.
     fn serve_line(&mut self, alloc: Global) -> Result<bool, Memory>
         requires { IsSound self.old.daemon }
-        ensures sound { OnOk result (IsSound self.new.daemon) }
+        ensures { IfOk result (λ ended. Serves self.old.partial.items self.old.daemon self.old.gathered.items self.new ended) }
     {
         let line = read_line(alloc, self.partial.as_slice())?;
         self.partial.clear();
@@ -57,17 +61,40 @@ impl Session {
         Ok(ended)
     }
 
-    /// Serves a line that a newline ends, whose last bytes these are.
-    fn end_line<T: Sink>(&mut self, alloc: Global, bytes: &[u8], output: &mut T) -> Fed
+    // Serves the line whose last bytes these are.
+    fn serve_with(&mut self, alloc: Global, bytes: &[u8]) -> Result<bool, Memory>
         requires { IsSound self.old.daemon }
-        ensures sound { IsSoundAfter result self.new.daemon }
+        ensures { IfOk result (λ ended. Serves (self.old.partial.items ++ take (kept - length self.old.partial.items) bytes.now) self.old.daemon self.old.gathered.items self.new ended) }
     {
-        if keep(&mut self.partial, bytes).is_err() {
-            return Fed::NoMemory;
-        }
-        match self.serve_line(alloc) {
+        keep(&mut self.partial, bytes)?;
+        self.serve_line(alloc)
+    }
+
+    // Serves a line that a newline ends, whose last bytes these are.
+    fn end_line<T: Sink>(&mut self, alloc: Global, bytes: &[u8], output: &mut T) -> Fed
+        requires sound { IsSound self.old.daemon }
+        requires line { IsLine bytes.now }
+        ensures fed { (read : List ℕ) (before : Option (List ℕ)) → Stands read before (T.out output.old) self.old → Feeds (read ++ (bytes.now ++ 10 ∷ [])) before (T.out output.new) self.new result }
+        ensures sound { IsSoundAfter result self.new.daemon }
+        ensures cause { HasCause (T.faults output.old) (T.faults output.new) (fed_failed result) }
+    {
+        match self.serve_with(alloc, bytes) {
             Ok(true) => Fed::Ended,
             Ok(false) => gone(flush_enough(&mut self.gathered, output)),
+            Err(_) => Fed::NoMemory,
+        }
+    }
+
+    // Takes the last bytes of a piece, which no newline ends.
+    fn hold(&mut self, bytes: &[u8]) -> Fed
+        requires sound { IsSound self.old.daemon }
+        requires line { IsLine bytes.now }
+        ensures fed { (read : List ℕ) (before out : Option (List ℕ)) → Stands read before out self.old → Feeds (read ++ bytes.now) before out self.new result }
+        ensures sound { IsSoundAfter result self.new.daemon }
+        ensures fits { fed_failed result ≡ false }
+    {
+        match keep(&mut self.partial, bytes) {
+            Ok(()) => Fed::Going,
             Err(_) => Fed::NoMemory,
         }
     }
@@ -75,7 +102,9 @@ impl Session {
     /// Takes the next piece of the script, and serves each line that is whole now.
     pub fn feed<T: Sink>(&mut self, alloc: Global, piece: &[u8], output: &mut T) -> Fed
         requires { IsSound self.old.daemon }
+        ensures fed { (read : List ℕ) (before : Option (List ℕ)) → Stands read before (T.out output.old) self.old → Feeds (read ++ piece.now) before (T.out output.new) self.new result }
         ensures sound { IsSoundAfter result self.new.daemon }
+        ensures cause { HasCause (T.faults output.old) (T.faults output.new) (fed_failed result) }
     {
         let mut rest = piece;
         'lines: while let Some((line, next)) = cut_line(rest) {
@@ -87,16 +116,15 @@ impl Session {
             }
             rest = next;
         }
-        match keep(&mut self.partial, rest) {
-            Ok(()) => Fed::Going,
-            Err(_) => Fed::NoMemory,
-        }
+        self.hold(rest)
     }
 
     /// Serves the last line, which no newline ends.
     pub fn feed_last(&mut self, alloc: Global) -> Fed
         requires { IsSound self.old.daemon }
+        ensures fed { (read : List ℕ) (before out : Option (List ℕ)) → Stands read before out self.old → FeedsLast (lines_of read) before out self.new result }
         ensures sound { IsSoundAfter result self.new.daemon }
+        ensures fits { fed_failed result ≡ false }
     {
         match self.serve_line(alloc) {
             Ok(true) => Fed::Ended,
@@ -104,18 +132,12 @@ impl Session {
             Err(_) => Fed::NoMemory,
         }
     }
-
-    /// Lets the text that is left go out.
-    pub fn flush<T: Sink>(&mut self, output: &mut T) -> Fed
-        requires { IsSound self.old.daemon }
-        ensures sound { IsSoundAfter result self.new.daemon }
-    {
-        gone(flush(&mut self.gathered, output))
-    }
 }
 
 /// Where a run stands after a write.
-fn gone(put: Put) -> Fed {
+fn gone(put: Put) -> Fed
+    ensures { result ≡ gone_to put }
+{
     match put {
         Put::All => Fed::Going,
         Put::Failed => Fed::Failed,
@@ -124,6 +146,8 @@ fn gone(put: Put) -> Fed {
 }
 
 /// Whether a line ends the script.
-fn is_end(line: &Line) -> bool {
+fn is_end(line: &Line) -> bool
+    ensures { result ≡ ends line.now }
+{
     matches!(line, Line::End)
 }

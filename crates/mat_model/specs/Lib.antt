@@ -4,3 +4,5 @@ pub mod Requests
 pub mod Work
 pub mod History
 pub mod Holding
+pub mod Laws
+pub mod Examples

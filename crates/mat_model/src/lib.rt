@@ -4,10 +4,24 @@
 mod answers;
 mod book;
 mod entries;
+mod examples;
+mod laws;
 mod requests;
 
 pub use answers::{Answer, Recorded, Reply};
 pub use book::{Book, Given, Hold, Row, Ticket, Waiter};
 pub use entries::{Entry, Event, Outcome, Task};
+pub use examples::{
+    file_above_replaces, file_below_replaces, first_run_is_legal, first_run_rows, first_run_task,
+    first_run_tickets, other_file_replaces, other_state_waits, replaced_is_asked,
+    same_file_is_kept,
+};
 pub use hall_lock::By;
+pub use laws::{
+    answer_stays, finish_answers_truly, finish_keeps_apart, finish_keeps_standing,
+    finish_keeps_tickets, first_make_answers, history_keeps_apart, history_keeps_gate,
+    history_keeps_standing, history_keeps_tickets, ready_is_true, serve_answers_truly,
+    serve_keeps_apart, serve_keeps_gate, serve_keeps_standing, serve_keeps_tickets,
+    write_is_declared,
+};
 pub use requests::{Asked, Request};

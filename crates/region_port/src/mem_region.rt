@@ -198,11 +198,18 @@ impl MemRegion {
 }
 
 impl Arm for MemRegion {
+    ghost use Rattle.region_port.specs.Memory.{part_of, rough_of};
+
     ghost armed = { λ region. region.counts.armed };
 
     ghost calls_made = { λ region. region.counts.calls };
 
-    fn arm(&mut self) {
+    fn arm(&mut self)
+        ensures armed { self.new.counts.armed ≡ true }
+        ensures calls { self.new.counts.calls ≡ self.old.counts.calls }
+        ensures place { self.new.place ≡ self.old.place }
+        ensures same { (part_of self.new ≡ part_of self.old) × (rough_of self.new ≡ rough_of self.old) × (self.new.counts.faults ≡ self.old.counts.faults) }
+    {
         self.counts.armed = true;
     }
 

@@ -199,10 +199,10 @@ fn an_armed_call_fails_once(rt: HostRuntime) -> Result<(), Fail> {
     let root = rel_of(alloc, b".")?;
     assert!(rt; !disk.lent(&path));
     let mut region = disk.take(&path)?;
-    arm(&mut region);
+    region.arm();
     assert_eq!(rt; put(&mut region, &root, false, b"x"), Did::Failed);
     assert_eq!(rt; put(&mut region, &root, false, b"x"), Did::Done);
-    arm(&mut region);
+    region.arm();
     assert_eq!(rt; region.sync(), Did::Failed);
     assert_eq!(rt; Region::faults(&region), 2);
     assert_eq!(rt; region.calls(), 3);

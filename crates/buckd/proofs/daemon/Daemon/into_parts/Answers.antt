@@ -1,11 +1,12 @@
-use Rattle.std.proofs.Common.{List, sym, subst}
-use Rattle.mat_model.specs.declared.book.Row.{Row}
-use Rattle.mat_model.specs.Holding.{AreHeld}
-use Rattle.mat_model.proofs.Stood.{stood-all_held}
-use Rattle.region_port.specs.Disks.{disk_content}
+use Rattle.std.proofs.Common.{List, sym, subst, ap, ◌∙◌}
+use Rattle.mat_model.specs.declared.entries.Entry.{Entry}
+use Rattle.mat_model.specs.History.{IsLegal, book_of}
+use Rattle.buckd.specs.Run.{empty_book}
 use Rattle.buckd.proofs.daemon.Daemon.into_parts.Goals as goal
 
-pub returns-clause-held : goal.returns-clause-held
-returns-clause-held c =
-    subst (λ (rows : List Row). AreHeld (disk_content c.args.self.disk) rows) (sym c.of-3.ensures)
-    (stood-all_held (disk_content c.args.self.disk) c.args.self.rows.items c.requires.kept.tied c.requires.kept.apart)
+pub returns-clause-legal : goal.returns-clause-legal
+returns-clause-legal c = record {
+  legal = subst (λ (history : List Entry). IsLegal empty_book history) (sym c.into_run.ensures.history) c.requires.legal.legal;
+  book = c.into_run.ensures.book ∙ c.requires.legal.book
+      ∙ ap (λ (history : List Entry). book_of empty_book history) (sym c.into_run.ensures.history);
+}

@@ -1,9 +1,15 @@
-use Rattle.std.proofs.Common.{length}
+use Rattle.std.proofs.Common.{◌≤◌, length}
 use Rattle.buckd.specs.Sound.{IsSound}
+use Rattle.buckd.proofs.RunLemmas.{Carried}
 use Rattle.buckd.proofs.session.Session.feed.Given as goal
 
+-- what stands before the rest of the piece was served, and no count fell
 abbrev pub invariant-lines : goal.invariant-lines
-invariant-lines g l = IsSound l.self.daemon
+invariant-lines g l = record {
+  sound : IsSound l.self.daemon;
+  carried : Carried l.piece l.rest (g.T.Sink.out l.fn.output) (g.T.Sink.out l.output) l.fn.self l.self;
+  faults : g.T.Sink.faults l.fn.output ≤ g.T.Sink.faults l.output;
+}
 
 abbrev pub decreases-lines : goal.decreases-lines
 decreases-lines g l = length l.rest

@@ -1,0 +1,31 @@
+use Rattle.std.proofs.Common.{refl}
+use Rattle.mat_model.specs.Examples.{file_path}
+use Rattle.mat_model.specs.declared.entries.Task.TheVariants as task
+use Rattle.mat_model.proofs.examples.first_run_is_legal.Goals as goal
+
+pub returns : goal.returns
+returns c digest = (
+  record { reply = refl; moment = refl; number = refl; order = tt },
+  (
+    record { reply = refl; moment = refl; number = refl; order = tt },
+    (
+      record { reply = refl; moment = refl; number = refl; order = tt },
+      (
+        record { reply = refl; moment = refl; number = refl; order = refl },
+        (
+          record { reply = refl; moment = refl; number = refl; order = (task.Make file_path 1, refl, refl, refl) },
+          (
+            record { reply = refl; moment = refl; number = refl; order = tt },
+            (
+              record { reply = refl; moment = refl; number = refl; order = tt },
+              (
+                record { reply = refl; moment = refl; number = refl; order = tt },
+                tt,
+              ),
+            ),
+          ),
+        ),
+      ),
+    ),
+  ),
+)
