@@ -1,5 +1,5 @@
 -- A run over a script that comes in pieces, and its text on the way out.
-use Rattle.std.specs.Prelude.{◌≡◌, ℕ, Bool, true, false, List, [], ◌++◌, take, ⊤, Option, Some, None}
+use Rattle.std.specs.Prelude.{◌≡◌, ℕ, Bool, true, false, List, [], ◌++◌, ◌<◌, length, take, ⊤, Option, Some, None}
 use Rattle.mat_io.specs.declared.answer.Put.{Put}
 use Rattle.mat_io.specs.declared.answer.Put.TheVariants as put
 use Rattle.mat_io.specs.Streams.{GrowsInPart}
@@ -33,6 +33,12 @@ abbrev pub IsOut : Put → List ℕ → Type 0
 IsOut put.All gathered = gathered ≡ []
 IsOut put.Failed gathered = ⊤
 IsOut put.NoMemory gathered = ⊤
+
+-- after that, less than a piece of 64 KiB is still gathered
+abbrev pub IsLittle : Put → List ℕ → Type 0
+IsLittle put.All gathered = length gathered < 65536
+IsLittle put.Failed gathered = ⊤
+IsLittle put.NoMemory gathered = ⊤
 
 -- ---- a run in pieces
 

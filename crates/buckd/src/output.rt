@@ -2,7 +2,7 @@
 ghost use Rattle.std.specs.Prelude.{◌≡◌, ℕ, List, Option};
 ghost use Rattle.mat_io.specs.Answers.{put_failed};
 ghost use Rattle.mat_io.specs.Causes.{HasCause};
-ghost use Rattle.buckd.specs.Streams.{Flowed, Flows, IsOut};
+ghost use Rattle.buckd.specs.Streams.{Flowed, Flows, IsLittle, IsOut};
 
 use mat_io::{Put, Sink};
 
@@ -28,6 +28,7 @@ pub fn flush<T: Sink>(gathered: &mut Vec<u8>, output: &mut T) -> Put
 /// Lets the gathered text go out where it is enough.
 pub fn flush_enough<T: Sink>(gathered: &mut Vec<u8>, output: &mut T) -> Put
     ensures flows { (before : Option (List ℕ)) (text : List ℕ) → Flows before (T.out output.old) gathered.old.items text → Flowed before (T.out output.new) gathered.new.items text result }
+    ensures out { IsLittle result gathered.new.items }
     ensures cause { HasCause (T.faults output.old) (T.faults output.new) (put_failed result) }
 {
     if gathered.len() < ENOUGH {
