@@ -1,5 +1,5 @@
 -- A run over a script that comes in pieces, and its text on the way out.
-use Rattle.std.specs.Prelude.{◌≡◌, ℕ, Bool, true, false, List, [], ◌++◌, ◌<◌, length, take, ⊤, Option, Some, None}
+use Rattle.std.specs.Prelude.{◌≡◌, ℕ, Bool, true, false, List, [], ◌++◌, ◌<◌, ◌≤◌, length, take, ⊤, Option, Some, None}
 use Rattle.mat_io.specs.declared.answer.Put.{Put}
 use Rattle.mat_io.specs.declared.answer.Put.TheVariants as put
 use Rattle.mat_io.specs.Streams.{GrowsInPart}
@@ -119,6 +119,18 @@ IsSoundAfter fed.Going d = IsSound d
 IsSoundAfter fed.Ended d = IsSound d
 IsSoundAfter fed.Failed d = IsSound d
 IsSoundAfter fed.NoMemory d = ⊤
+
+-- little of a run is in memory: less than a piece of its text waits, and of the line that isn't whole no more than is kept
+pub record IsSmall (s : Session) : Type 0 where
+  pub text : length s.gathered.items < 65536
+  pub line : length s.partial.items ≤ kept
+
+-- the same, where the run goes on
+abbrev pub IsSmallAfter : Fed → Session → Type 0
+IsSmallAfter fed.Going s = IsSmall s
+IsSmallAfter fed.Ended s = ⊤
+IsSmallAfter fed.Failed s = ⊤
+IsSmallAfter fed.NoMemory s = ⊤
 
 -- whether the output failed
 abbrev pub fed_failed : Fed → Bool

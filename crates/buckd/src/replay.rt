@@ -5,7 +5,7 @@ ghost use Rattle.mat_io.specs.Streams.{Reads};
 ghost use Rattle.mat_io.specs.Causes.{HasCause};
 ghost use Rattle.buckd.specs.Daemon.{point_of};
 ghost use Rattle.buckd.specs.Sound.{IsSound};
-ghost use Rattle.buckd.specs.Streams.{Stands};
+ghost use Rattle.buckd.specs.Streams.{IsSmall, Stands};
 ghost use Rattle.buckd.specs.Replay.{IsFinished, IsSoundAtEnd, IsWithin, Leaves, LeavesAt, Ran, Replays, end_of, input_failed, input_limit, is_lost, is_sink_fault, is_source_fault, is_status, output_failed, status_of};
 
 use crate::daemon::Run;
@@ -124,6 +124,7 @@ fn read_all<S: Source, T: Sink>(
     output: &mut T,
 ) -> Ending
     requires sound { IsSound session.old.daemon }
+    requires small { IsSmall session.old }
     requires start { Stands [] (T.out output.old) (T.out output.old) session.old }
     ensures ran { Ran limit (S.left input.old) (S.left input.new) (T.out output.old) (T.out output.new) session.new result }
     ensures sound { IsSoundAtEnd result session.new.daemon }
@@ -146,6 +147,7 @@ fn read_with<S: Source, T: Sink>(
     output: &mut T,
 ) -> Ending
     requires sound { IsSound session.old.daemon }
+    requires small { IsSmall session.old }
     requires start { Stands [] (T.out output.old) (T.out output.old) session.old }
     requires room { length buffer.old ≡ CHUNK }
     ensures ran { Ran limit (S.left input.old) (S.left input.new) (T.out output.old) (T.out output.new) session.new result }

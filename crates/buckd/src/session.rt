@@ -35,12 +35,13 @@ pub struct Session {
 
 impl Session {
     ghost use Rattle.buckd.specs.Sound.{IsSound};
-    ghost use Rattle.buckd.specs.Streams.{FeedsLast, Feeds, IsSoundAfter, Serves, Stands, fed_failed};
+    ghost use Rattle.buckd.specs.Streams.{FeedsLast, Feeds, IsSmall, IsSmallAfter, IsSoundAfter, Serves, Stands, fed_failed};
 
     /// A run that begins.
     pub fn new(alloc: Global) -> Session
         ensures sound { IsSound result.daemon }
         ensures start { (out : Option (List ℕ)) → Stands [] out out result }
+        ensures small { IsSmall result }
     {
         Session {
             daemon: Daemon::new(alloc),
@@ -76,6 +77,7 @@ impl Session {
         requires line { IsLine bytes.now }
         ensures fed { (read : List ℕ) (before : Option (List ℕ)) → Stands read before (T.out output.old) self.old → Feeds (read ++ (bytes.now ++ 10 ∷ [])) before (T.out output.new) self.new result }
         ensures sound { IsSoundAfter result self.new.daemon }
+        ensures small { IsSmallAfter result self.new }
         ensures cause { HasCause (T.faults output.old) (T.faults output.new) (fed_failed result) }
     {
         match self.serve_with(alloc, bytes) {
@@ -88,9 +90,11 @@ impl Session {
     // Takes the last bytes of a piece, which no newline ends.
     fn hold(&mut self, bytes: &[u8]) -> Fed
         requires sound { IsSound self.old.daemon }
+        requires small { IsSmall self.old }
         requires line { IsLine bytes.now }
         ensures fed { (read : List ℕ) (before out : Option (List ℕ)) → Stands read before out self.old → Feeds (read ++ bytes.now) before out self.new result }
         ensures sound { IsSoundAfter result self.new.daemon }
+        ensures small { IsSmallAfter result self.new }
         ensures fits { fed_failed result ≡ false }
     {
         match keep(&mut self.partial, bytes) {
@@ -99,11 +103,14 @@ impl Session {
         }
     }
 
-    /// Takes the next piece of the script, and serves each line that is whole now.
+    /// Takes the next piece of the script, and serves each line that is whole now. Between two pieces little of the
+    /// script and of its text is in memory.
     pub fn feed<T: Sink>(&mut self, alloc: Global, piece: &[u8], output: &mut T) -> Fed
-        requires { IsSound self.old.daemon }
+        requires sound { IsSound self.old.daemon }
+        requires small { IsSmall self.old }
         ensures fed { (read : List ℕ) (before : Option (List ℕ)) → Stands read before (T.out output.old) self.old → Feeds (read ++ piece.now) before (T.out output.new) self.new result }
         ensures sound { IsSoundAfter result self.new.daemon }
+        ensures small { IsSmallAfter result self.new }
         ensures cause { HasCause (T.faults output.old) (T.faults output.new) (fed_failed result) }
     {
         let mut rest = piece;

@@ -20,9 +20,13 @@ pub record IsDigest (d : Digest) : Type 0 where
   pub hash_bytes : IsBytes d.hash
   pub size_fits : d.size < 2 ^ 64
 
--- the text of a digest: 64 lower-case hexadecimal digits, a colon, and the size in decimal
+-- the text of a digest's hash: 64 lower-case hexadecimal digits
+abbrev pub hash_text : Digest → List ℕ
+hash_text d = encode_lower d.hash
+
+-- the text of a digest: that of its hash, a colon, and the size in decimal
 abbrev pub digest_text : Digest → List ℕ
-digest_text d = encode_lower d.hash ++ 58 ∷ decimal d.size
+digest_text d = hash_text d ++ 58 ∷ decimal d.size
 
 -- `0` to `9` and `a` to `f`
 abbrev pub is_lower_digit : ℕ → Bool

@@ -8,5 +8,6 @@ pub mod Parts
 pub mod Paths
 pub mod Placed
 pub mod Refusals
+pub mod Search
 pub mod Subtrees
 pub mod Turns

@@ -108,7 +108,7 @@ pub child_begins : (c : Child) → below_child c ≡ put_in (out-Child c).name (
 child_begins c = below_child_out c ∙ ap (map (put_in (out-Child c).name)) (begins (out-Child c).node)
 
 -- the children behind a child come after its name
-after_child : (c : Child) (cs : List Child) → ascends (below_all (c ∷ cs)) ≡ true → list_all (is_after ((out-Child c).name ∷ [])) (below_all cs) ≡ true
+pub after_child : (c : Child) (cs : List Child) → ascends (below_all (c ∷ cs)) ≡ true → list_all (is_after ((out-Child c).name ∷ [])) (below_all cs) ≡ true
 after_child c cs e =
     after_first (put_in (out-Child c).name (at_root (what_node (out-Child c).node))) (map (put_in (out-Child c).name) (drop 1 (below_node (out-Child c).node))) (below_all cs)
     (ap (λ t. ascends (t ++ below_all cs)) (sym (child_begins c)) ∙ e)
@@ -147,7 +147,7 @@ child_ascends name (d ∷ cs) c e f =
         ∙ ap ascends (sym (below_child_out d)) ∙ ascends_left (below_child d) (below_all cs) e
     by false more g = more g
 
-dir_ascends : (n : Node) (cs : Children) (list : List Child) → n ≡ variant.Dir cs → list ≡ (out-Children cs).list → ascends (below_node n) ≡ true
+pub dir_ascends : (n : Node) (cs : Children) (list : List Child) → n ≡ variant.Dir cs → list ≡ (out-Children cs).list → ascends (below_node n) ≡ true
     → ascends (below_all list) ≡ true
 dir_ascends n cs list e f up =
     and_right (list_all (is_after []) (below_all list)) (ascends (below_all list)) (ap ascends (sym (below_dir_out n cs list e f)) ∙ up)

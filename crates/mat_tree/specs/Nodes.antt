@@ -1,7 +1,9 @@
 -- The nodes at and below a node of a tree, as a flat list, seen from it.
-use Rattle.std.specs.Prelude.{ℕ, Bool, List, [], ◌∷◌, ◌++◌, map, Option, Some, None}
-use Rattle.std.specs.List.{flat_map}
-use Rattle.mat_path.specs.Names.{same_name}
+use Rattle.std.specs.Prelude.{ℕ, Bool, true, ◌&&◌, List, [], ◌∷◌, ◌++◌, map, Option, Some, None}
+use Rattle.std.specs.List.{flat_map, list_all}
+use Rattle.std.specs.Ordering.{is_lt}
+use Rattle.std.specs.declared.cmp.Ordering.{Ordering}
+use Rattle.mat_path.specs.Names.{same_name, name_cmp}
 use Rattle.mat_tree.specs.declared.flat.Flat.{Flat}
 use Rattle.mat_tree.specs.declared.flat.What.{What}
 use Rattle.mat_tree.specs.declared.flat.What.TheVariants as what
@@ -66,6 +68,19 @@ what_node node = layer_what (out-Node node)
 -- whether a child has this name
 abbrev pub is_named : List ℕ → Child → Bool
 is_named name child = same_name name (out-Child child).name
+
+-- how a child's name stands to a name
+abbrev pub child_cmp : List ℕ → Child → Ordering
+child_cmp name child = name_cmp (out-Child child).name name
+
+-- whether a child comes after a name
+abbrev pub is_behind : List ℕ → Child → Bool
+is_behind name child = is_lt (name_cmp name (out-Child child).name)
+
+-- whether children stand in strict order of name
+abbrev pub are_in_order : List Child → Bool
+are_in_order [] = true
+are_in_order (child ∷ rest) = list_all (is_behind (out-Child child).name) rest && are_in_order rest
 
 -- a node below a folder at these names
 abbrev pub put_under : List (List ℕ) → Flat → Flat

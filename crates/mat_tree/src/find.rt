@@ -2,11 +2,12 @@
 ghost use Rattle.std.specs.Prelude.{◌≡◌, true};
 ghost use Rattle.std.specs.List.{find};
 ghost use Rattle.std.specs.Option.{option_copied};
-ghost use Rattle.mat_tree.specs.Nodes.{below_node, found, is_named};
+ghost use Rattle.mat_tree.specs.Nodes.{are_in_order, below_node, child_cmp, found, is_named};
 ghost use Rattle.mat_tree.specs.Trees.{ascends, sub_tree};
 
 use crate::node::{Child, Node};
 use mat_path::Name;
+use std::cmp::Ordering;
 
 // The node at these names below a node, if one stands there.
 pub(crate) fn node_at<'a>(node: &'a Node, names: &[Name]) -> Option<&'a Node>
@@ -26,9 +27,13 @@ pub(crate) fn node_at<'a>(node: &'a Node, names: &[Name]) -> Option<&'a Node>
     }
 }
 
-// The first child of this name.
+// The child of this name, by halves.
 fn find_child<'a>(children: &'a [Child], name: &Name) -> Option<&'a Child>
+    requires { are_in_order children.now ≡ true }
     ensures { option_copied result ≡ find (is_named name.now) children.now }
 {
-    children.iter().find(|child| *name == child.name)
+    match children.binary_search_by(|child| child.name.cmp(name)) {
+        Ok(place) => Some(&children[place]),
+        Err(_) => None,
+    }
 }

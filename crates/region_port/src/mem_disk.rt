@@ -130,11 +130,20 @@ impl Disk for MemDisk {
 }
 
 impl Arm for MemDisk {
+    ghost use Rattle.region_port.specs.Disks.{disk_content, disk_rough};
+
     ghost armed = { λ disk. disk.counts.armed };
 
     ghost calls_made = { λ disk. disk.counts.calls };
 
-    fn arm(&mut self) {
+    fn arm(&mut self)
+        ensures armed { self.new.counts.armed ≡ true }
+        ensures calls { self.new.counts.calls ≡ self.old.counts.calls }
+        ensures faults { self.new.counts.faults ≡ self.old.counts.faults }
+        ensures content { disk_content self.new ≡ disk_content self.old }
+        ensures lent { self.new.loans.items ≡ self.old.loans.items }
+        ensures rough { disk_rough self.new ≡ disk_rough self.old }
+    {
         self.counts.armed = true;
     }
 

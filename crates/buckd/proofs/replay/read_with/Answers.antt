@@ -7,6 +7,7 @@ use Rattle.buckd.proofs.replay.read_with.Goals as goal
 pub chunks-init : goal.chunks-init
 chunks-init g c = record {
   sound = c.requires.sound;
+  small = c.requires.small;
   room = c.requires.room;
   taken = taken_none c.args.limit (g.S.Source.left c.args.input.now) (g.T.Sink.out c.args.output.now) c.args.session.now c.requires.start;
   source = omega arith;
@@ -19,6 +20,7 @@ chunks-preserved g c =
     let less : (c.chunks.left - c.in-Taken.count) + c.in-Taken.count ≡ c.chunks.left = omega (arith, fits) in
     record {
       sound = c.in-Going.ensures.sound;
+      small = c.in-Going.ensures.small;
       room = omega arith;
       taken = taken_more c.args.limit c.chunks.left _ c.in-Taken.count _ (g.S.Source.left c.chunks.input) _ _ (g.T.Sink.out c.chunks.output) _ c.chunks.session c.feed.new.self
           _ c.read_piece.new.buffer c.chunks.invariant.taken c.in-Taken.ensures.reads.2 refl c.in-Taken.ensures.reads.1 less c.in-Going.ensures.fed;

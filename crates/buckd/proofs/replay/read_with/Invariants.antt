@@ -1,5 +1,6 @@
 use Rattle.std.proofs.Common.{◌≡◌, ◌≤◌, length}
 use Rattle.buckd.specs.Sound.{IsSound}
+use Rattle.buckd.specs.Streams.{IsSmall}
 use Rattle.buckd.proofs.ReplayLemmas.{Taken}
 use Rattle.buckd.proofs.replay.read_with.Given as goal
 
@@ -7,6 +8,7 @@ use Rattle.buckd.proofs.replay.read_with.Given as goal
 abbrev pub invariant-chunks : goal.invariant-chunks
 invariant-chunks g l = record {
   sound : IsSound l.session.daemon;
+  small : IsSmall l.session;
   room : length l.buffer ≡ 65536;
   taken : Taken l.limit l.left (g.S.Source.left l.fn.input) (g.S.Source.left l.input) (g.T.Sink.out l.fn.output) (g.T.Sink.out l.output) l.session;
   source : g.S.Source.faults l.fn.input ≤ g.S.Source.faults l.input;

@@ -3,8 +3,13 @@ use Rattle.std.proofs.lemmas.List.{nil_from_length}
 use Rattle.std.specs.declared.option.Option.TheVariants.{Some, None}
 use Rattle.mat_tree.specs.Nodes.{below_node}
 use Rattle.mat_tree.specs.Trees.{sub_tree}
-use Rattle.mat_tree.proofs.Subtrees.{sub_tree_root, descends, step_ascends, names_split}
+use Rattle.mat_tree.proofs.Subtrees.{dir_ascends, sub_tree_root, descends, step_ascends, names_split}
+use Rattle.mat_tree.proofs.Search.{in_order}
 use Rattle.mat_tree.proofs.find.+node_at.Goals as goal
+
+pub find_child-requires : goal.find_child-requires
+find_child-requires t c =
+    in_order c.list.result.now (dir_ascends c.args.node.now c.in-Dir.children c.list.result.now c.in-Dir.is c.list.ensures c.requires)
 
 pub node_at-requires : goal.node_at-requires
 node_at-requires t c =

@@ -21,6 +21,7 @@ returns-in-NoMemory-clause-fed g c =
 pub lines-preserved : goal.lines-preserved
 lines-preserved g c = record {
   sound = c.in-Going.ensures.sound;
+  small = c.in-Going.ensures.small;
   carried = carried_more c.args.piece.now c.lines.rest.now c.in-Some.line.now c.in-Some.next.now _ (g.T.Sink.out c.lines.output) _ _ c.lines.self _
       c.lines.invariant.carried c.in-Some.ensures c.in-Going.ensures.fed;
   faults = (cause_after _ _ _ _ c.lines.invariant.faults c.in-Going.ensures.cause).later;
