@@ -1,5 +1,5 @@
 -- Hashes in lower-case hexadecimal digits.
-use Rattle.std.proofs.Common.{◌≡◌, ℕ, suc, ◌+◌, ◌-◌, ◌*◌, ◌/◌, ◌%◌, ◌<◌, ◌≤◌, ◌==◌, nat_le, nat_lt, true, if◌then◌else◌, List, [], ◌∷◌, length, take, slice_index, Some, Ok, refl, ap, ◌∙◌, arith, length-take}
+use Rattle.std.proofs.Common.{◌≡◌, ℕ, zero, suc, ◌+◌, ◌-◌, ◌*◌, ◌/◌, ◌%◌, ◌<◌, ◌≤◌, ◌==◌, nat_le, nat_lt, true, if◌then◌else◌, List, [], ◌∷◌, length, take, slice_index, Some, Ok, refl, ap, ◌∙◌, arith, length-take}
 use Rattle.std.specs.Prelude.{IsOk}
 use Rattle.std.specs.List.{AllPass}
 use Rattle.std.proofs.lemmas.Bool.{agree_below_at, eqb-true}
@@ -64,11 +64,16 @@ digit_value-written c h =
     digit_value-again : (c : ℕ) → lower c → (if nat_lt (digit_value c) 10 then 48 + digit_value c else 87 + digit_value c) ≡ c
     digit_value-again c h = grind (arith, nat_tests)
 
+-- one byte more
+bytes_more : (b : ℕ) (bytes : List ℕ) → b < 256 → IsBytes bytes → IsBytes (b ∷ bytes)
+bytes_more b bytes fits h zero = fits
+bytes_more b bytes fits h (suc k) = h k
+
 -- lower-case digits in pairs spell bytes, whose text they are
 lower_pairs : (i : ℕ) (s : List ℕ) → length s % 2 ≡ 0 → AllPass is_lower_digit s
-    → (bytes : List ℕ) × (decode_pairs i s ≡ Ok bytes) × (encode_lower bytes ≡ s)
+    → (bytes : List ℕ) × (decode_pairs i s ≡ Ok bytes) × (encode_lower bytes ≡ s) × IsBytes bytes
 unfolding decode_pairs encode_with
-lower_pairs i [] even h = ([], refl, refl)
+lower_pairs i [] even h = ([], refl, refl, λ k. omega arith)
 lower_pairs i (a ∷ []) even h = absurd (omega arith)
 lower_pairs i (a ∷ b ∷ rest) even h =
     let la = All-head lower a (b ∷ rest) h in
@@ -78,12 +83,14 @@ lower_pairs i (a ∷ b ∷ rest) even h =
     let va = digit_value a in
     let vb = digit_value b in
     let small : vb < 16 = digit_value-small b lb in
+    let small_high : va < 16 = digit_value-small a la in
     let pair : pair_value a b i ≡ Ok (va * 16 + vb) = rw (digit_value-read a la, digit_value-read b lb) refl in
     let high : (va * 16 + vb) / 16 ≡ va = omega arith in
     let low : (va * 16 + vb) % 16 ≡ vb = omega arith in (
       (va * 16 + vb) ∷ ih.0,
       decode_pairs-ok_pair i a b _ rest pair ∙ ap (cons_byte (va * 16 + vb)) ih.1,
       rw (high, low, digit_value-written a la, digit_value-written b lb) (ap (λ (r : List ℕ). a ∷ b ∷ r) ih.2),
+      bytes_more (va * 16 + vb) ih.0 (omega arith) ih.3,
     )
 
 -- what lower-case digits spell is written as them
@@ -92,6 +99,12 @@ pub encode_lower-hash_spelled : (s : List ℕ) → length s % 2 ≡ 0 → AllPas
 encode_lower-hash_spelled s even h =
     let read = lower_pairs 0 s even h in
     rw (decode_of-even s even, read.1) read.2
+
+-- what lower-case digits spell is bytes
+pub IsBytes-hash_spelled : (s : List ℕ) → length s % 2 ≡ 0 → AllPass is_lower_digit s → IsBytes (hash_spelled s)
+IsBytes-hash_spelled s even h =
+    let read = lower_pairs 0 s even h in
+    rw (decode_of-even s even, read.1) read.3
 
 -- what is written spells the bytes
 pub hash_spelled-encode_lower : (bytes : List ℕ) → IsBytes bytes → hash_spelled (encode_lower bytes) ≡ bytes

@@ -1,15 +1,15 @@
 -- A digest's text is read as that digest, and what is read as a digest is its text.
-use Rattle.std.proofs.Common.{inl, inr, ◌≡◌, ℕ, ◌+◌, ◌<◌, ◌≤◌, ◌==◌, nat_lt, if◌then◌else◌, Bool, true, false, List, ◌∷◌, ◌++◌, length, take, drop, slice_index, Option, Some, None, Ok, Err, refl, sym, ap, ◌∙◌, arith, length-append}
+use Rattle.std.proofs.Common.{inl, inr, ◌≡◌, ℕ, ◌+◌, ◌%◌, ◌<◌, ◌≤◌, ◌==◌, nat_eq, nat_lt, not, if◌then◌else◌, Bool, true, false, List, ◌∷◌, ◌++◌, length, take, drop, slice_index, Option, Some, None, Ok, Err, refl, sym, ap, subst, ◌∙◌, arith, length-append}
 use Rattle.std.specs.Prelude.{IfOk, decimal}
-use Rattle.std.proofs.lemmas.Bool.{cases_lt, eqb-true, ltb-false}
+use Rattle.std.proofs.lemmas.Bool.{cases_lt, eq-eqb, eqb-true, ltb-false}
 use Rattle.std.proofs.lemmas.List.{get_or_past, drop_more, drop-append-le, drop_all, take-append-drop, take-append-le, take_all, get_or-append-add}
 use Rattle.std.proofs.lemmas.List.Sums.{prefix_len_is}
-use Rattle.hex.specs.Hex.{encode_lower, lower_digits}
+use Rattle.hex.specs.Hex.{IsBytes, encode_lower, lower_digits}
 use Rattle.hex.proofs.HexLemmas.{length-encode_with}
-use Rattle.mat_digest.specs.Digests.{IsDigest, digest_text, hash_end, hash_spelled, is_lower_digit, read_digest, size_written, with_size}
+use Rattle.mat_digest.specs.Digests.{IsDigest, digest_text, hash_end, hash_spelled, is_lower_digit, read_digest, read_hash, size_written, with_size}
 use Rattle.mat_digest.specs.declared.digest.Digest.{Digest}
 use Rattle.mat_digest.specs.declared.digest.DigestRefusal.TheVariants.{Colon, Hash}
-use Rattle.mat_digest.proofs.Hashes.{AllPass-encode_lower, encode_lower-hash_spelled, hash_end_digits, hash_end_len, hash_spelled-encode_lower}
+use Rattle.mat_digest.proofs.Hashes.{AllPass-encode_lower, IsBytes-hash_spelled, encode_lower-hash_spelled, hash_end_digits, hash_end_len, hash_spelled-encode_lower}
 use Rattle.mat_digest.proofs.Sizes.{decimal-size_written, size_written-decimal}
 
 -- ---- what is written is read
@@ -86,3 +86,38 @@ digest_text-read_digest text =
     let hash = encode_lower-hash_spelled (take 64 text) (rw len refl) (hash_end_digits text end) in
     let rest = drop_more text 64 0 (past_hash text byte) in
     sym (take-append-drop 64 text) ∙ rw (hash, decimal-size_written (drop 65 text) n size, rest, byte) refl)
+
+-- ---- a hash alone
+
+-- what is read of a hash that is written
+pub read_hash-encode_lower : (hash : List ℕ) → length hash ≡ 32 → IsBytes hash → read_hash (encode_lower hash) ≡ Some hash
+unfolding read_hash
+read_hash-encode_lower hash size bytes =
+    let text = encode_lower hash in
+    let len : length text ≡ 64 = omega (arith, length-encode_with lower_digits hash, size) in
+    let whole : take 64 text ≡ text = take_all 64 text (omega arith) in
+    let end : hash_end text ≡ 64 =
+    rw whole (prefix_len_is is_lower_digit text 64 0 (omega arith) (λ k below. AllPass-encode_lower hash bytes k 0 (omega arith)) (λ above. absurd (omega arith))) in
+    let sized : nat_eq (length text) 64 ≡ true = eq-eqb (length text) 64 len in
+    rw (sized, end, whole, hash_spelled-encode_lower hash bytes) refl
+
+-- a hash is read where two tests pass
+hash_cases : (sized short : Bool) (found hash : List ℕ) → (if not sized then None else if short then None else Some found) ≡ Some hash
+    → (sized ≡ true) × (short ≡ false) × (found ≡ hash)
+hash_cases true true found hash h = cc
+hash_cases true false found hash h = (refl, refl, cc)
+hash_cases false short found hash h = cc
+
+-- a text from which a hash is read is the text of that hash
+pub encode_lower-read_hash : (text hash : List ℕ) → read_hash text ≡ Some hash → (text ≡ encode_lower hash) × (length hash ≡ 32) × IsBytes hash
+unfolding read_hash
+encode_lower-read_hash text hash read =
+    let passed = hash_cases _ _ _ hash read in
+    let len : length text ≡ 64 = eqb-true (length text) 64 passed.0 in
+    let end : 64 ≤ hash_end text = ltb-false (hash_end text) 64 passed.1 in
+    let whole : take 64 text ≡ text = take_all 64 text (omega arith) in
+    let digits = hash_end_digits text end in
+    let even : length (take 64 text) % 2 ≡ 0 = rw (whole, len) refl in
+    let spelled : encode_lower hash ≡ text = ap encode_lower (sym passed.2) ∙ encode_lower-hash_spelled (take 64 text) even digits ∙ whole in
+    let bytes : IsBytes hash = subst IsBytes passed.2 (IsBytes-hash_spelled (take 64 text) even digits) in
+    (sym spelled, omega (arith, length-encode_with lower_digits hash, ap length spelled), bytes)

@@ -1,5 +1,5 @@
 -- Digests, their text, and what reading a text answers (Remote Execution API v2, `Digest`).
-use Rattle.std.specs.Prelude.{◌≡◌, ℕ, ◌^◌, ◌<◌, ◌==◌, ◌&&◌, ◌||◌, nat_lt, nat_le, Bool, if◌then◌else◌, List, [], ◌∷◌, ◌++◌, length, take, drop, slice_index, decimal, Option, Some, None, Result, Ok, Err}
+use Rattle.std.specs.Prelude.{◌≡◌, ℕ, ◌^◌, ◌<◌, ◌==◌, ◌&&◌, ◌||◌, not, nat_eq, nat_lt, nat_le, Bool, if◌then◌else◌, List, [], ◌∷◌, ◌++◌, length, take, drop, slice_index, decimal, Option, Some, None, Result, Ok, Err}
 use Rattle.std.specs.Char.{is_ascii_digit}
 use Rattle.std.specs.List.{list_all, prefix_len}
 use Rattle.std.specs.Str.Parse.{digits_value}
@@ -39,6 +39,13 @@ hash_end text = prefix_len is_lower_digit (take 64 text)
 -- the bytes that a text of hexadecimal digits spells
 abbrev pub hash_spelled : List ℕ → List ℕ
 hash_spelled text = result_unwrap_or (decode_of text) []
+
+-- the hash that exactly 64 lower-case digits spell
+unfoldable pub read_hash : List ℕ → Option (List ℕ)
+read_hash text =
+    if not (nat_eq (length text) 64) then None
+    else if nat_lt (hash_end text) 64 then None
+    else Some (hash_spelled (take 64 text))
 
 -- the number that decimal digits write, if there is a digit and 64 bits hold the number
 abbrev pub number_written : List ℕ → Option ℕ

@@ -1,9 +1,9 @@
 // A digest as a value, and how it is made and read.
 ghost use Rattle.std.specs.Prelude.{◌≡◌, ◌≤◌, length, Result, IfOk};
-ghost use Rattle.mat_digest.specs.Digests.{IsDigest, digest_of, digest_text, read_digest};
+ghost use Rattle.mat_digest.specs.Digests.{IsDigest, digest_of, digest_text, read_digest, read_hash};
 ghost use Rattle.mat_digest.specs.declared.digest.Digest.{Digest};
 
-use crate::text::read_digest;
+use crate::text::{read_digest, read_hash};
 use sha2::Sha256;
 
 /// The SHA-256 of some bytes and how many they are.
@@ -52,5 +52,19 @@ impl Digest {
         ensures whole { (d : Digest) → IsDigest d → text.now ≡ digest_text d → result ≡ Ok d }
     {
         read_digest(text)
+    }
+
+    /// The hash that exactly 64 lower-case hexadecimal digits spell. It takes no memory.
+    #[tactic(auto, unfolding(crate::specs::Digests::read_hash))]
+    pub fn read_hash(text: &[u8]) -> Option<[u8; 32]>
+        ensures { result ≡ read_hash text.now }
+    {
+        if text.len() != 64 {
+            return None;
+        }
+        match read_hash(text) {
+            Ok(hash) => Some(hash),
+            Err(_) => None,
+        }
     }
 }

@@ -99,7 +99,7 @@ fn find_hash_end(text: &[u8]) -> usize
 }
 
 // The hash that the first 64 bytes spell.
-fn read_hash(text: &[u8]) -> Result<[u8; 32], DigestRefusal>
+pub(crate) fn read_hash(text: &[u8]) -> Result<[u8; 32], DigestRefusal>
     ensures { result ≡ (if nat_lt (hash_end text.now) 64 then Err (DigestRefusal.Hash (hash_end text.now))
         else Ok (hash_spelled (take 64 text.now))) }
 {

@@ -58,6 +58,14 @@ impl Name {
         }
     }
 
+    /// Whether these bytes are a name. Takes no memory.
+    pub fn is_name(bytes: &[u8]) -> bool
+        ensures { result ≡ is_name bytes.now }
+    {
+        Name::refusals_are_exact(bytes);
+        reading::name_refusal(bytes).is_none()
+    }
+
     /// A text is a name exactly where it has no refusal.
     pub fn refusals_are_exact(text: &[u8])
         ensures { is_name text.now ≡ is_none (name_refusal text.now) }

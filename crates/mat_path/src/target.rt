@@ -49,6 +49,14 @@ impl Target {
         }
     }
 
+    /// Whether these bytes are a target. Takes no memory.
+    pub fn is_target(bytes: &[u8]) -> bool
+        ensures { result ≡ is_target bytes.now }
+    {
+        Target::refusals_are_exact(bytes);
+        reading::target_refusal(bytes).is_none()
+    }
+
     /// A text is a target exactly where it has no refusal.
     pub fn refusals_are_exact(text: &[u8])
         ensures { is_target text.now ≡ is_none (target_refusal text.now) }
