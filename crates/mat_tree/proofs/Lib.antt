@@ -1,8 +1,10 @@
 pub mod Ascending
 pub mod Bytes
+pub mod Families
 pub mod Folds
 pub mod Joins
 pub mod Last
+pub mod Orders
 pub mod Pairs
 pub mod Parts
 pub mod Paths
@@ -11,3 +13,4 @@ pub mod Refusals
 pub mod Search
 pub mod Subtrees
 pub mod Turns
+pub mod Varints

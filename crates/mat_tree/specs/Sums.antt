@@ -1,5 +1,5 @@
 -- The sum of a tree: its kind, and the digest of its file or of its directory's message (Remote Execution API v2, `Directory`).
-use Rattle.std.specs.Prelude.{ℕ, zero, suc, ◌==◌, Bool, List, [], ◌∷◌, ◌++◌, length}
+use Rattle.std.specs.Prelude.{ℕ, zero, suc, Bool, true, false, List, [], ◌∷◌, ◌++◌, length}
 use Rattle.std.specs.List.{filter, flat_map}
 use Rattle.mat_digest.specs.Digests.{digest_of}
 use Rattle.mat_digest.specs.declared.digest.Digest.{Digest}
@@ -12,9 +12,15 @@ use Rattle.mat_tree.specs.declared.sum.Sum.{Sum}
 use Rattle.mat_tree.specs.Messages.{dir_field, file_field, link_field}
 use Rattle.mat_tree.specs.Trees.{file_sum, sub_tree}
 
--- whether a node is a child of the root: its rel has one name
+-- whether a rel has one name
+abbrev pub is_single : List (List ℕ) → Bool
+is_single [] = false
+is_single (name ∷ []) = true
+is_single (name ∷ next ∷ names) = false
+
+-- whether a node is a child of the root
 abbrev pub is_child : Flat → Bool
-is_child node = length node.rel == 1
+is_child node = is_single node.rel
 
 -- the children of the root, in order of name
 abbrev pub children_of : List Flat → List Flat

@@ -64,6 +64,17 @@ kind_of (what.Link target) = None
 abbrev pub same_digest : Digest → Digest → Bool
 same_digest a b = same_name a.hash b.hash && (a.size == b.size)
 
+-- whether two kinds are the same
+abbrev pub same_kind : Kind → Kind → Bool
+same_kind kind.File kind.File = true
+same_kind kind.Exec kind.Exec = true
+same_kind kind.Dir kind.Dir = true
+same_kind _ _ = false
+
+-- whether two sums are the same
+abbrev pub same_sum : Sum → Sum → Bool
+same_sum a b = same_kind a.kind b.kind && same_digest a.digest b.digest
+
 -- whether two flags are the same
 abbrev pub same_bool : Bool → Bool → Bool
 same_bool true b = b

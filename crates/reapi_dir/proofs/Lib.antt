@@ -1,0 +1,13 @@
+pub mod Answering
+pub mod Appends
+pub mod BothTests
+pub mod Children
+pub mod Levels
+pub mod ListBack
+pub mod Measures
+pub mod MessageBack
+pub mod NodeBack
+pub mod Order
+pub mod Search
+pub mod Steps
+pub mod WireBack

@@ -1,0 +1,7 @@
+use Rattle.std.proofs.Common.{◌≡◌, ◌++◌, take}
+use Rattle.std.specs.List.{flat_map}
+use Rattle.reapi_dir.specs.Children.{link_child}
+use Rattle.reapi_dir.proofs.sum.push_link_children.Given as goal
+
+abbrev pub invariant-loop-child : goal.invariant-loop-child
+invariant-loop-child l = l.message.items ≡ l.initial.message.items ++ flat_map link_child (take l.child-index l.children)

@@ -1,0 +1,6 @@
+pub mod Children
+pub mod Grammar
+pub mod Lengths
+pub mod Reading
+pub mod Spelling
+pub mod Wire
