@@ -3,6 +3,7 @@ use Rattle.std.specs.Prelude.{◌≡◌, Bool, true, false, List}
 use Rattle.mat_tree.specs.declared.flat.Flat.{Flat}
 use Rattle.region_port.specs.Calls.{Paths}
 use Rattle.region_port.specs.declared.port.Region.{Ghosts}
+use Rattle.region_port.specs.declared.states.Rough.{Rough}
 use Rattle.region_port.specs.declared.states.Synced.{Synced}
 use Rattle.region_port.specs.declared.states.Synced.TheVariants as synced
 
@@ -12,6 +13,10 @@ region_in (synced.Settled part) = part.region
 region_in (synced.Bare part) = part.region
 region_in (synced.Failed part) = part.region
 region_in (synced.NoMemory part) = part.region
+
+-- a part with another region
+abbrev pub with_region : {R : Type 0} → Rough R → R → Rough R
+with_region part region = record { region = region }
 
 -- whether an answer is a failure
 abbrev pub sync_failed : {R : Type 0} {g : Ghosts R} → Synced R g → Bool

@@ -11,8 +11,7 @@ use mat_tree::Tree;
 /// A part with any content, which may be rough.
 #[derive(Drop)]
 pub struct Rough<R: Region> {
-    /// The region, for its calls.
-    pub region: R,
+    region: R,
 }
 
 /// A part that holds just a tree, and survives a crash.
@@ -51,7 +50,9 @@ pub enum Synced<R: Region> {
 
 impl<R: Region> Rough<R> {
     ghost use Rattle.mat_io.specs.Causes.{HasCause};
-    ghost use Rattle.region_port.specs.States.{Empties, Settles, region_in, sync_failed};
+    ghost use Rattle.std.specs.Borrow.{Lends, sem};
+    ghost use Rattle.region_port.specs.contracts.states.Rough.{the_row};
+    ghost use Rattle.region_port.specs.States.{Empties, Settles, region_in, sync_failed, with_region};
 
     /// The part of this region. Takes no memory.
     pub fn new(region: R) -> Rough<R>
@@ -65,6 +66,14 @@ impl<R: Region> Rough<R> {
         ensures { result.now ≡ R.place self.now.region }
     {
         self.region.path()
+    }
+
+    /// Lends the region for its calls. Takes no memory.
+    pub fn region(&mut self) -> &mut R
+        ensures* writes_back { sem 𝓛 (Lends (the_row R.row) R.row self.entry result (with_region self.old)) }
+        ensures value { result.now ≡ self.old.region }
+    {
+        &mut self.region
     }
 
     /// The region. Takes no memory.

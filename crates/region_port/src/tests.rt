@@ -88,12 +88,14 @@ fn finish<R: Region>(region: &mut R, put: Did) -> Did
     put
 }
 
-/// One sync of a part with no node, and the region again.
+/// Two syncs of a part with no node, one through the region that it lends, and the region again.
 fn emptied<R: Region>(region: R) -> R
     requires { ForSome (R.part region) (λ part. part ≡ bare) }
     ensures { R.place result ≡ R.place region }
 {
-    match Rough::new(region).empty() {
+    let mut part = Rough::new(region);
+    let _did = part.region().sync();
+    match part.empty() {
         Synced::Settled(part) => part.into_region(),
         Synced::Bare(part) => part.into_region(),
         Synced::Failed(part) => part.into_region(),
