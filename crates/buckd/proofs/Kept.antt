@@ -1,5 +1,5 @@
 -- What keeps a daemon as it is between two lines, and what makes a line's answer the one of the definitions.
-use Rattle.std.proofs.Common.{◌≡◌, ℕ, ◌+◌, ◌-◌, codes, Bool, true, false, List, [], ◌++◌, length, Some, None, cond, Result, Ok, Err, OnOk, refl, sym, ap, ap₂, subst, ◌∙◌, append_assoc, append-nil, arith}
+use Rattle.std.proofs.Common.{◌≡◌, ℕ, ◌+◌, ◌-◌, codes, Bool, true, false, List, [], ◌∷◌, ◌++◌, length, Some, None, cond, Result, Ok, Err, OnOk, refl, sym, ap, ap₂, subst, ◌∙◌, append_assoc, append-nil, arith}
 use Rattle.std.specs.List.{list_any, list_all}
 use Rattle.std.specs.Ordering.{is_eq}
 use Rattle.std.proofs.lemmas.List.{length_push}
@@ -9,14 +9,17 @@ use Rattle.mat_tree.specs.declared.flat.Flat.{Flat}
 use Rattle.mat_tree.specs.Trees.{file_tree}
 use Rattle.mat_tree.specs.Parts.{Holds, below}
 use Rattle.mat_model.specs.declared.answers.Reply.{Reply}
+use Rattle.mat_model.specs.declared.book.Book.{Book}
 use Rattle.mat_model.specs.declared.book.Row.{Row}
 use Rattle.mat_model.specs.declared.book.Ticket.{Ticket}
-use Rattle.mat_model.specs.declared.entries.Event.{Event}
+use Rattle.mat_model.specs.declared.entries.Entry.{Entry}
 use Rattle.mat_model.specs.declared.entries.Event.TheVariants as event
+use Rattle.mat_model.specs.declared.requests.Asked.{Asked}
 use Rattle.mat_model.specs.declared.requests.Request.{Request}
-use Rattle.mat_model.specs.History.{number_after}
 use Rattle.mat_model.specs.Rows.{overlaps_row, put_row, used, used_row}
-use Rattle.mat_model.specs.Work.{first_task}
+use Rattle.mat_model.specs.Gate.{Served}
+use Rattle.mat_model.specs.Requests.{serve}
+use Rattle.mat_model.specs.Yard.{first_task}
 use Rattle.mat_model.proofs.Apart.{put_row-apart, apart-map}
 use Rattle.mat_model.proofs.Stood.{used-path, stood-used, stood-put_row}
 use Rattle.region_port.specs.Disks.{disk_content}
@@ -24,8 +27,8 @@ use Rattle.region_port.specs.Listing.{ascends, rels_of}
 use Rattle.buckd.specs.declared.daemon.Daemon.{Daemon}
 use Rattle.buckd.specs.declared.items.Item.TheVariants as item
 use Rattle.buckd.specs.declared.items.Line.{Line}
-use Rattle.buckd.specs.Daemon.{point_of, Steps, Tells}
-use Rattle.buckd.specs.Run.{Point, asked_of, drain, entry_at, is_not_yet, make_first, makes, step, tell, tell_item, tell_step, told_not_yet, told_since}
+use Rattle.buckd.specs.Daemon.{book_of, point_of, Serves, Steps, Tells}
+use Rattle.buckd.specs.Run.{Point, ask, asked_of, drain, entry_at, idle, is_not_yet, make_first, makes, next, nothing_aside, tell, tell_item, tell_step, told_not_yet, told_since}
 use Rattle.buckd.specs.Sound.{AreWritten, kept_by, is_answered_before, IsKept, IsPast, IsReady, IsSound, KeepsRows}
 use Rattle.buckd.specs.Legal.{IsLegalAt}
 use Rattle.buckd.specs.Texts.{answer_lines, reply_text, shown_text}
@@ -78,14 +81,28 @@ kept-declared old new row bytes kept clear rows lies is keeps at disk live state
   free = rw disk kept.free;
 }
 
+-- a request that was served, and then entered, is a step of the run
+pub asked-steps : (request : Asked) (old mid new : Daemon) (given : Reply) (served : Served) →
+    served ≡ serve (next (point_of old)) 0 nothing_aside request (book_of old) → Serves served old mid given → book_of new ≡ book_of mid →
+    new.history.items ≡ mid.history.items ++ entry_at (length mid.history.items) (event.Asked request) given ∷ [] →
+    Steps (ask request (point_of old)) new given
+asked-steps request old mid new given served is serves book history =
+    let reply : given ≡ (serve (next (point_of old)) 0 nothing_aside request (book_of old)).reply = serves.reply ∙ ap (λ (s : Served). s.reply) is in
+    record {
+      reply = reply;
+      point = ap₂ (λ (b : Book) (l : List Entry). let p : Point = record { book = b; history = l } in p)
+          (book ∙ serves.book ∙ ap (λ (s : Served). s.book) is)
+          (history ∙ ap₂ (λ (l : List Entry) (r : Reply). l ++ entry_at (length l) (event.Asked request) r ∷ []) serves.history reply);
+    }
+
 -- a daemon is sound after a step that answered no ticket
-pub sound-stepped : (happened : Event) (before after : Daemon) (given : Reply) → Steps (step happened (point_of before)) after given →
+pub sound-stepped : (request : Asked) (before after : Daemon) (given : Reply) → Steps (ask request (point_of before)) after given →
     IsKept after → IsPast (length before.history.items) after → IsReady after
-sound-stepped happened before after given steps kept past =
+sound-stepped request before after given steps kept past =
     let grown : length after.history.items ≡ length before.history.items + 1 =
     ap (λ (p : Point). length p.history) steps.point
     ∙ length_push before.history.items
-    (entry_at (length before.history.items) happened (step happened (point_of before)).reply) in
+    (entry_at (length before.history.items) (event.Asked request) (ask request (point_of before)).reply) in
     record {
       kept = kept;
       past = subst (λ (n : ℕ). IsPast n after) (sym grown) (past-more (length before.history.items) after.tickets.items past);
@@ -93,7 +110,7 @@ sound-stepped happened before after given steps kept past =
 
 -- a line's text has nothing behind it where no ticket was answered since
 line_alone : (before point : Point) (text first last : List ℕ) →
-    answer_lines (number_after before.book.first before.history) (length point.history - length before.history) point.book.tickets ≡ [] →
+    answer_lines (next before) (length point.history - length before.history) point.book.tickets ≡ [] →
     last ≡ (first ++ text) ++ codes "\n" → last ≡ first ++ (told_since before text point).text
 line_alone before point text first last none is =
     is ∙ append_assoc first text (codes "\n")
@@ -102,12 +119,12 @@ line_alone before point text first last none is =
 
 -- a request's line is answered as the definitions say, where no ticket was answered by its entry
 pub told-request : (request : Request) (before : Point) (after : Daemon) (given : Reply) (first last : List ℕ) →
-    is_not_yet request before.book ≡ false → Steps (step (event.Asked (asked_of request)) before) after given →
-    list_all (is_answered_before (number_after before.book.first before.history)) after.tickets.items ≡ true →
+    is_not_yet request before.book ≡ false → Steps (ask (asked_of request) before) after given →
+    list_all (is_answered_before (next before)) after.tickets.items ≡ true →
     last ≡ (first ++ reply_text given) ++ codes "\n" → Tells (tell_item (item.Request request) before) after first last
 told-request request before after given first last now steps past is =
-    let done = step (event.Asked (asked_of request)) before in
-    let number = number_after before.book.first before.history in
+    let done = ask (asked_of request) before in
+    let number = next before in
     let count : length done.point.history - length before.history ≡ 1 =
     omega (arith, length_push before.history (entry_at (length before.history) (event.Asked (asked_of request)) done.reply)) in
     let tickets : done.point.book.tickets ≡ after.tickets.items = sym (ap (λ (p : Point). p.book.tickets) steps.point) in
@@ -125,20 +142,20 @@ pub told-not_yet : (request : Request) (before : Point) (after : Daemon) (first 
     point_of after ≡ before → last ≡ first ++ codes "notyet\n" → Tells (tell_item (item.Request request) before) after first last
 told-not_yet request before after first last later at is =
     subst (λ (b : Bool).
-    Tells (cond b (told_not_yet before) (tell_step before (step (event.Asked (asked_of request)) before))) after first last)
+    Tells (cond b (told_not_yet before) (tell_step before (ask (asked_of request) before))) after first last)
     (sym later) (record { text = is; point = at })
 
 -- a drain's line is answered as the definitions say, with the lines of the tickets that were answered since
 pub told-drain : (before : Point) (after : Daemon) (first last : List ℕ) → point_of after ≡ drain before →
     last ≡ (first ++ codes "drained\n")
-    ++ answer_lines (number_after before.book.first before.history) (length after.history.items - length before.history) after.tickets.items →
+    ++ answer_lines (next before) (length after.history.items - length before.history) after.tickets.items →
     Tells (tell_item item.Drain before) after first last
 told-drain before after first last at is = record {
   text = is
       ∙ append_assoc first (codes "drained\n")
-      (answer_lines (number_after before.book.first before.history) (length after.history.items - length before.history) after.tickets.items)
+      (answer_lines (next before) (length after.history.items - length before.history) after.tickets.items)
       ∙ ap (λ (p : Point). first ++ (codes "drained\n"
-      ++ answer_lines (number_after before.book.first before.history) (length p.history - length before.history) p.book.tickets)) at;
+      ++ answer_lines (next before) (length p.history - length before.history) p.book.tickets)) at;
   point = at;
 }
 
@@ -161,7 +178,7 @@ drained-more count d0 before after left made =
 
 -- a drain ends where there is none to make
 pub drained-none : (count : ℕ) (d0 before after : Point) → makes count before ≡ drain d0 →
-    first_task before.book.rows before.book.tickets ≡ None → after ≡ make_first before → after ≡ drain d0
+    first_task idle before.book ≡ None → after ≡ make_first before → after ≡ drain d0
 drained-none count d0 before after left none made =
     made ∙ make_first-none before none ∙ sym (makes-none count before none) ∙ left
 

@@ -1,119 +1,366 @@
 -- A run's history is legal, and its book is the book of the history.
-use Rattle.std.proofs.Common.{◌≡◌, ℕ, zero, suc, ◌+◌, ◌-◌, ◌≤◌, ◌==◌, Bool, true, false, ◌||◌, ◌&&◌, List, [], ◌∷◌, ◌++◌, length, count_by, Option, Some, None, cond, refl, sym, ap, ap₂, subst, ◌∙◌, slice_get, option_and_then, arith}
+use Rattle.std.proofs.Common.{◌≡◌, ℕ, zero, suc, ◌+◌, ◌==◌, max, Bool, true, false, not, ◌||◌, ◌&&◌, List, [], ◌∷◌, ◌++◌, length, count_by, Option, Some, None, cond, refl, sym, ap, ap₂, subst, ◌∙◌, Contains, find, filter, map, arith}
 use Rattle.std.specs.List.{list_any, list_all}
-use Rattle.std.proofs.lemmas.Bool.Decides.{nat_tests}
+use Rattle.std.specs.Option.{option_map_or}
+use Rattle.std.proofs.lemmas.Bool.{and_from}
 use Rattle.std.proofs.lemmas.List.{length_push}
-use Rattle.std.proofs.lemmas.List.Folds.{list_any-append, list_all-append}
+use Rattle.std.proofs.lemmas.List.Folds.{list_all-append}
+use Rattle.mat_digest.specs.Digests.{digest_of}
+use Rattle.mat_tree.specs.Trees.{file_sum, file_tree}
+use Rattle.mat_model.specs.declared.answers.Recorded.TheVariants as recorded
+use Rattle.mat_model.specs.declared.answers.Reply.{Reply}
 use Rattle.mat_model.specs.declared.answers.Reply.TheVariants as reply
 use Rattle.mat_model.specs.declared.book.Book.{Book}
+use Rattle.mat_model.specs.declared.book.Row.{Row}
+use Rattle.mat_model.specs.declared.book.Ticket.{Ticket}
 use Rattle.mat_model.specs.declared.entries.Entry.{Entry}
 use Rattle.mat_model.specs.declared.entries.Event.{Event}
 use Rattle.mat_model.specs.declared.entries.Event.TheVariants as event
 use Rattle.mat_model.specs.declared.entries.Outcome.TheVariants as outcome
 use Rattle.mat_model.specs.declared.entries.Task.{Task}
+use Rattle.mat_model.specs.declared.entries.Task.TheVariants as task
 use Rattle.mat_model.specs.declared.requests.Asked.{Asked}
-use Rattle.mat_model.specs.History.{after, answer_event, book_of, caller_at, caller_of, ends, ends_job, IsInOrder, IsLegal, IsLegalEntry, is_of, number_after}
-use Rattle.mat_model.specs.Requests.{is_open}
-use Rattle.mat_model.specs.Work.{first_task}
-use Rattle.mat_model.proofs.LegalLemmas.{answer_event-clock, book_from-push, count_by-all, legal-push}
+use Rattle.mat_model.specs.declared.requests.Asked.TheVariants as asked
+use Rattle.mat_model.specs.declared.requests.Request.{Request}
+use Rattle.mat_model.specs.declared.requests.Request.TheVariants as request
+use Rattle.mat_model.specs.Declarations.{declare, new_row, write}
+use Rattle.mat_model.specs.Gate.{Served, admits, is_live, is_waiting}
+use Rattle.mat_model.specs.History.{IsInOrder, IsLegal, IsLegalEntry, Point as ModelPoint, after, answer, answer_done, book_of, is_of, opened, point_of, recorded_as, stepped}
+use Rattle.mat_model.specs.Requests.{at_moment, ensure_row, serve}
+use Rattle.mat_model.specs.Rows.{are_apart, cover, overlaps_row, put_row, used, used_row}
+use Rattle.mat_model.specs.Tickets.{is_open}
+use Rattle.mat_model.specs.Work.{end_make, finish, is_declared}
+use Rattle.mat_model.specs.Yard.{Debris, Job, Lent, Way, WayOf, Yard, add_debris, copied, ended, first_make, first_task, has_stamp, held, is_job, is_not_below, is_other_job, is_way_of, leaves_debris, lent_by, lent_for, made_yard, removed_rows, returned, started, store, way_declared, way_of, way_within, ways_after, writes_lying}
+use Rattle.mat_model.proofs.Clear.{write_clear}
+use Rattle.mat_model.proofs.Idle.{has_one, idle_first, itself, no_wipe, none_removed}
+use Rattle.mat_model.proofs.LawLemmas.{contains_map, contains_put, history_apart, used-stamp}
+use Rattle.mat_model.proofs.LegalLemmas.{KeepsClock, after_all-push, count_by-all, each-push, finish-clock, history-all, serve-clock}
+use Rattle.mat_model.proofs.Makes.{first_make_found}
+use Rattle.mat_model.proofs.Tests.{and_false_right, and_true_parts}
 use Rattle.buckd.specs.declared.items.Item.{Item}
 use Rattle.buckd.specs.declared.items.Item.TheVariants as item
 use Rattle.buckd.specs.declared.items.Line.{Line}
 use Rattle.buckd.specs.declared.items.Line.TheVariants as line
 use Rattle.buckd.specs.Items.{line_of}
-use Rattle.buckd.specs.Run.{Point, asked_of, drain, empty_book, entry_at, is_not_yet, made, made_if, make_first, makes, start, step, tell, tell_item, tell_lines, tell_step, told_not_yet}
-use Rattle.buckd.specs.Legal.{IsLegalAt}
-use Rattle.buckd.proofs.Stepping.{begun, slice_get-end, task_of_job-end}
+use Rattle.buckd.specs.Legal.{IsLawful, IsLegalAt, is_own, is_own_way, new_daemon}
+use Rattle.buckd.specs.Run.{Point, ask, asked_of, begin, drain, end_made, entered, entry_at, idle, is_not_yet, made, made_if, make_first, makes, next, nothing_aside, start, tell, tell_item, tell_lines, tell_step, told_not_yet}
+
+-- what the history of a run has led to
+abbrev pub model : Point → ModelPoint
+model point = point_of new_daemon point.history
+
+-- the entry of an event that was served so
+abbrev pub added : Event → Served → Point → Entry
+added happened served point = entry_at (length point.history) happened served.reply
 
 -- a run begins so
 pub start-at : IsLegalAt start
-start-at = record { legal = tt; book = refl; own = refl; idle = λ job bound. refl; first = refl; now = refl }
-
--- the entry that an event at moment 0 adds
-abbrev pub added : Event → Point → Entry
-added happened point = entry_at (length point.history) happened (answer_event point.book point.history 0 happened).reply
-
--- it is a legal one where the event is in order
-pub added-legal : (happened : Event) (point : Point) → IsLegalAt point → IsInOrder point.book point.history 0 happened →
-    IsLegalEntry point.book point.history (added happened point)
-added-legal happened point at order = record {
-  reply = refl;
-  moment = sym ((answer_event-clock point.book point.history happened).now ∙ at.now);
-  number = count_by-all (is_of 0) point.history at.own;
-  order = order;
+start-at = record {
+  lawful = record { legal = tt; book = refl; own = refl; first = refl; now = refl };
+  jobs = refl;
+  debris = refl;
+  ways = refl;
 }
-
--- no entry of one more has a test where none of them does
-any-push : {A : Type 0} (p : A → Bool) (xs : List A) (x : A) → list_any p xs ≡ false → p x ≡ false → list_any p (xs ++ x ∷ []) ≡ false
-any-push p xs x before last =
-    list_any-append p xs (x ∷ []) ∙ ap₂ (λ (a b : Bool). a || (b || false)) before last
 
 all-push : {A : Type 0} (p : A → Bool) (xs : List A) (x : A) → list_all p xs ≡ true → p x ≡ true → list_all p (xs ++ x ∷ []) ≡ true
 all-push p xs x before last =
     list_all-append p xs (x ∷ []) ∙ ap₂ (λ (a b : Bool). a && (b && true)) before last
 
--- a run goes on by an event that is in order and ends no job to come
-pub event-at : (happened : Event) (point : Point) → IsLegalAt point → IsInOrder point.book point.history 0 happened →
-    ((job : ℕ) → length point.history + 1 ≤ job → ends job happened ≡ false) → IsLegalAt (step happened point).point
-event-at happened point at order ending =
-    let entry : Entry = added happened point in
-    let clock = answer_event-clock point.book point.history happened in
-    let lawful : IsLegalEntry (book_of empty_book point.history) point.history entry =
-    subst (λ (b : Book). IsLegalEntry b point.history entry) at.book (added-legal happened point at order) in
+-- where an event leads that is served as the definitions say
+led : (happened : Event) (served : Served) (point : Point) → answer (model point) 0 happened served.reply ≡ served →
+    model (entered happened served point).point ≡ stepped (model point) (added happened served point) served
+led happened served point is =
+    after_all-push (opened new_daemon) point.history (added happened served point)
+    ∙ ap (λ (s : Served). stepped (model point) (added happened served point) s) is
+
+-- a run goes on lawfully by such an event, where it is in order
+lawful-entered : (happened : Event) (served : Served) (point : Point) → IsLawful point → answer (model point) 0 happened served.reply ≡ served →
+    IsInOrder (model point) 0 happened → KeepsClock point.book served.book → IsLawful (entered happened served point).point
+lawful-entered happened served point lawful is order clock =
+    let entry : Entry = added happened served point in
+    let moment : served.book.now ≡ 0 = clock.now ∙ lawful.now in
+    let rule : IsLegalEntry (model point) entry = record {
+      reply = sym (ap (λ (s : Served). s.reply) is);
+      moment = sym (ap (λ (s : Served). s.book.now) is ∙ moment);
+      number = count_by-all (is_of 0) point.history lawful.own
+          ∙ ap (λ (es : List Entry). count_by (is_of 0) es) (sym (history-all (opened new_daemon) point.history));
+      order = order;
+    } in
     record {
-      legal = legal-push empty_book [] point.history entry at.legal lawful;
-      book = ap (λ (b : Book). after b point.history entry) at.book ∙ sym (book_from-push empty_book [] point.history entry);
-      own = all-push (is_of 0) point.history entry at.own refl;
-      idle = λ job bound.
-          let grown : length (point.history ++ entry ∷ []) ≡ length point.history + 1 = length_push point.history entry in
-          any-push (ends_job job) point.history entry (at.idle job (omega (arith, grown, bound))) (ending job (omega (arith, grown, bound)));
-      first = clock.first ∙ at.first;
-      now = clock.now ∙ at.now;
+      legal = each-push IsLegalEntry (opened new_daemon) point.history entry lawful.legal rule;
+      book = sym (ap (λ (p : ModelPoint). p.book) (led happened served point is));
+      own = all-push (is_of 0) point.history entry lawful.own refl;
+      first = clock.first ∙ lawful.first;
+      now = moment;
     }
 
--- and by a request
-pub step-at : (request : Asked) (point : Point) → IsLegalAt point → IsLegalAt (step (event.Asked request) point).point
-step-at request point at = event-at (event.Asked request) point at tt (λ job bound. refl)
+-- the model counts as the run does
+number_is : (point : Point) → IsLawful point → (model point).book.first + length (model point).history ≡ next point
+number_is point lawful =
+    ap₂ (λ (n : ℕ) (es : List Entry). n + length es) (sym (ap (λ (b : Book). b.first) lawful.book))
+    (history-all (opened new_daemon) point.history)
 
--- a number isn't one above it
-not_above : (job later : ℕ) → job + 1 ≤ later → (job == later) ≡ false
-not_above job later above = grind (arith, nat_tests, above)
+-- a request that is served is answered by the model as the run says
+asked-is : (asked : Request) (point : Point) (said : Reply) → IsLawful point → is_not_yet asked point.book ≡ false →
+    answer (model point) 0 (event.Asked (asked_of asked)) said ≡ serve (next point) 0 nothing_aside (asked_of asked) point.book
+asked-is (request.Enter command state) point said lawful now =
+    ap₂ (λ (n : ℕ) (b : Book). serve n 0 nothing_aside (asked.Enter command state) b) (number_is point lawful) (sym lawful.book)
+asked-is (request.Write command path bytes) point said lawful now =
+    ap₂ (λ (n : ℕ) (b : Book). serve n 0 nothing_aside (asked.Write command path (file_sum (digest_of bytes) false)) b)
+    (number_is point lawful) (sym lawful.book)
+asked-is (request.Ensure command path) point said lawful now =
+    ap₂ (λ (n : ℕ) (b : Book). serve n 0 nothing_aside (asked.Ensure command path) b) (number_is point lawful) (sym lawful.book)
+asked-is (request.Leave command) point said lawful now = absurd cc
+asked-is (request.Declare command path tree) point said lawful now = absurd cc
+asked-is (request.Copy command path source) point said lawful now = absurd cc
+asked-is (request.Matches command path sum) point said lawful now = absurd cc
+asked-is (request.Has command path) point said lawful now = absurd cc
+asked-is (request.Invalidate command path) point said lawful now = absurd cc
+asked-is (request.Clean cutoff mode) point said lawful now = absurd cc
+asked-is request.Flush point said lawful now = absurd cc
 
--- the caller of the last entry
-pub caller_at-end : (first : ℕ) (earlier : List Entry) (entry : Entry) →
-    caller_at first (earlier ++ entry ∷ []) (number_after first earlier) ≡ Some entry.by.caller
-caller_at-end first earlier entry =
-    let left : number_after first earlier - first ≡ length earlier = omega arith in
-    ap (λ (k : ℕ). option_and_then caller_of (slice_get (earlier ++ entry ∷ []) k)) left
-    ∙ ap (λ (o : Option Entry). option_and_then caller_of o) (slice_get-end earlier entry)
+-- ---- what a request leaves of the rows
 
--- and by the make that comes first
-pub made-at : (task : Task) (point : Point) → IsLegalAt point → first_task point.book.rows point.book.tickets ≡ Some task →
-    IsLegalAt (made task point)
-made-at task point at is =
-    let job : ℕ = number_after point.book.first point.history in
-    let place : job ≡ length point.history = ap (λ (n : ℕ). n + length point.history) at.first ∙ none_before (length point.history) in
-    let begin : Entry = entry_at (length point.history) (event.Begin task) reply.Started in
-    let begins : IsLegalAt (step (event.Begin task) point).point = event-at (event.Begin task) point at is (λ later bound. refl) in
-    let grown : length (begun point.history task) ≡ length point.history + 1 = length_push point.history begin in
-    event-at (event.Done job outcome.Made) (step (event.Begin task) point).point begins (
-      task,
-      task_of_job-end point.book.first point.history begin,
-      any-push (ends_job job) point.history begin (at.idle job (omega (arith, place))) refl,
-      caller_at-end point.book.first point.history begin,
-    )
-    (λ later bound. not_above job later (omega (arith, place, grown, bound)))
+-- each row still has its stamp
+abbrev HasAll : List Row → List Row → Type 0
+HasAll rows left = (row : Row) → Contains rows row → list_any (has_stamp row.stamp) left ≡ true
+
+all-same : (rows : List Row) → HasAll rows rows
+all-same rows = λ row among. has_one rows row row among refl
+
+all-used : (path : List (List ℕ)) (moment : ℕ) (rows : List Row) → HasAll rows (used path moment rows)
+all-used path moment rows = λ row among.
+    has_one (used path moment rows) row (used_row path moment row) (contains_map (used_row path moment) rows row among) (used-stamp path moment row)
+
+all-put : (new : Row) (rows : List Row) → HasAll rows (put_row new rows)
+all-put new rows = λ row among. has_one (put_row new rows) row row (contains_put new rows row among) refl
+
+all-either : (rows : List Row) (b : Bool) (first second : Served) → HasAll rows first.book.rows → HasAll rows second.book.rows →
+    HasAll rows (cond b first second).book.rows
+all-either rows true first second one other = one
+all-either rows false first second one other = other
+
+all-served : (asked : Request) (number : ℕ) (book : Book) → is_not_yet asked book ≡ false →
+    HasAll book.rows (serve number 0 nothing_aside (asked_of asked) book).book.rows
+all-served (request.Enter command state) number book now =
+    all-either book.rows (is_live command (at_moment 0 book) || is_waiting command (at_moment 0 book)) _ _ (all-same book.rows)
+    (all-either book.rows (admits state (at_moment 0 book)) _ _ (all-same book.rows) (all-same book.rows))
+all-served (request.Write command path bytes) number book now =
+    elim (is_live command (at_moment 0 book)) as
+    (λ b. is_live command (at_moment 0 book) ≡ b →
+    HasAll book.rows (write number command path (file_sum (digest_of bytes) false) (at_moment 0 book)).book.rows) [
+      | true ↦ λ live.
+          subst (λ (s : Served). HasAll book.rows s.book.rows)
+          (sym (write_clear number command path (digest_of bytes) (at_moment 0 book) live
+          (and_false_right (is_live command book) (list_any (overlaps_row path) book.rows) now live)))
+          (all-put (new_row number (at_moment 0 book).now path (file_tree (digest_of bytes) false)) book.rows)
+      | false ↦ λ dead.
+          subst (λ (b : Bool). HasAll book.rows (cond b (served_write (at_moment 0 book)) (record { reply = reply.NotLive; book = at_moment 0 book })).book.rows)
+          (sym dead) (all-same book.rows)
+    ] refl
   where
-    none_before : (n : ℕ) → 0 + n ≡ n
-    none_before n = omega arith
+    served_write : Book → Served
+    served_write later = declare number command path (file_tree (digest_of bytes) false) later
+all-served (request.Ensure command path) number book now =
+    all-either book.rows (is_live command (at_moment 0 book)) _ _
+    (elim (cover book.rows path) as (λ o. HasAll book.rows (ensure_row number command path (at_moment 0 book) o).book.rows) [
+      | None ↦ all-same book.rows
+      | Some row ↦ all-either book.rows row.stands _ _ (all-used row.path (at_moment 0 book).now book.rows) (all-used row.path (at_moment 0 book).now book.rows)
+    ])
+    (all-same book.rows)
+all-served (request.Leave command) number book now = absurd cc
+all-served (request.Declare command path tree) number book now = absurd cc
+all-served (request.Copy command path source) number book now = absurd cc
+all-served (request.Matches command path sum) number book now = absurd cc
+all-served (request.Has command path) number book now = absurd cc
+all-served (request.Invalidate command path) number book now = absurd cc
+all-served (request.Clean cutoff mode) number book now = absurd cc
+all-served request.Flush number book now = absurd cc
+
+-- ---- the work state
+
+-- rows that were not copied read no other row's part
+own_way : (stamp : ℕ) (rows : List Row) (ways : List WayOf) → list_all is_own_way ways ≡ true → lent_by (way_of stamp ways) rows ≡ None
+own_way stamp rows [] own = refl
+own_way stamp rows (entry ∷ ways) own =
+    let parts = and_true_parts (is_own_way entry) (list_all is_own_way ways) own in
+    elim (is_way_of stamp entry) as
+    (λ b. lent_by (option_map_or way_within (cond b (Some entry) (find (is_way_of stamp) ways)) store) rows ≡ None) [
+      | true ↦ alone entry.way parts.0
+      | false ↦ own_way stamp rows ways parts.1
+    ]
+  where
+    alone : (way : Way) → is_own way ≡ true → lent_by way rows ≡ None
+    alone held own = refl
+    alone store own = refl
+    alone (copied source rest from holds) own = absurd cc
+
+-- ways stay so
+own_after : (request : Asked) (said : Reply) (rows : List Row) (ways : List WayOf) → is_own (way_declared request rows ways) ≡ true →
+    list_all is_own_way ways ≡ true → list_all is_own_way (ways_after request said rows ways) ≡ true
+own_after request (reply.Declared stamp) rows ways declares own =
+    and_from (is_own (way_declared request rows ways)) (list_all is_own_way ways) declares own
+own_after request (reply.Kept stamp) rows ways declares own =
+    elim (writes_lying request rows) as (λ b. list_all is_own_way (cond b (record { stamp = stamp; way = held } ∷ ways) ways) ≡ true)
+    [ true ↦ own | false ↦ own ]
+own_after request _ rows ways declares own = own
+
+-- no debris comes of a request that leaves each row its stamp
+clean_debris : (by_clean : Bool) (yard : Yard) (rows left : List Row) → HasAll rows left →
+    add_debris by_clean (filter (leaves_debris yard) (removed_rows rows left)) yard.debris ≡ yard.debris
+clean_debris by_clean yard rows left has =
+    ap (λ (gone : List Row). add_debris by_clean (filter (leaves_debris yard) gone) yard.debris) (none_removed rows left has)
+
+-- a request that is served leaves a run legal
+pub ask-at : (wanted : Request) (point : Point) → IsLegalAt point → is_not_yet wanted point.book ≡ false →
+    IsLegalAt (ask (asked_of wanted) point).point
+ask-at wanted point at now =
+    let served : Served = serve (next point) 0 nothing_aside (asked_of wanted) point.book in
+    let is : answer (model point) 0 (event.Asked (asked_of wanted)) served.reply ≡ served = asked-is wanted point served.reply at.lawful now in
+    let leads = led (event.Asked (asked_of wanted)) served point is in
+    let clock = serve-clock (next point) 0 nothing_aside (asked_of wanted) point.book in
+    let lawful = lawful-entered (event.Asked (asked_of wanted)) served point at.lawful is tt
+    (record { first = clock.first; now = clock.now ∙ latest point.book.now }) in
+    let has : HasAll (model point).book.rows served.book.rows =
+    subst (λ (b : Book). HasAll b.rows served.book.rows) at.lawful.book (all-served wanted (next point) point.book now) in
+    yards wanted now served leads lawful has
+  where
+    latest : (n : ℕ) → max n 0 ≡ n
+    latest n = omega arith
+
+    kept : (request : Asked) (served : Served) → (let p : Point = (entered (event.Asked request) served point).point in
+        model p ≡ stepped (model point) (added (event.Asked request) served point) served) →
+        IsLawful (entered (event.Asked request) served point).point →
+        (stepped (model point) (added (event.Asked request) served point) served).yard.jobs ≡ (model point).yard.jobs →
+        (stepped (model point) (added (event.Asked request) served point) served).yard.debris ≡ (model point).yard.debris →
+        list_all is_own_way (stepped (model point) (added (event.Asked request) served point) served).yard.ways ≡ true →
+        IsLegalAt (entered (event.Asked request) served point).point
+    kept request served leads lawful jobs debris ways = record {
+      lawful = lawful;
+      jobs = ap (λ (p : ModelPoint). p.yard.jobs) leads ∙ jobs ∙ at.jobs;
+      debris = ap (λ (p : ModelPoint). p.yard.debris) leads ∙ debris ∙ at.debris;
+      ways = ap (λ (p : ModelPoint). list_all is_own_way p.yard.ways) leads ∙ ways;
+    }
+
+    yards : (wanted : Request) → is_not_yet wanted point.book ≡ false → (served : Served) →
+        (let p : Point = (entered (event.Asked (asked_of wanted)) served point).point in
+        model p ≡ stepped (model point) (added (event.Asked (asked_of wanted)) served point) served) →
+        IsLawful (entered (event.Asked (asked_of wanted)) served point).point →
+        HasAll (model point).book.rows served.book.rows → IsLegalAt (entered (event.Asked (asked_of wanted)) served point).point
+    yards (request.Enter command state) now served leads lawful has =
+        kept (asked.Enter command state) served leads lawful refl (clean_debris _ (model point).yard (model point).book.rows served.book.rows has)
+        (own_after (asked.Enter command state) served.reply (model point).book.rows (model point).yard.ways refl at.ways)
+    yards (request.Write command path bytes) now served leads lawful has =
+        kept (asked.Write command path (file_sum (digest_of bytes) false)) served leads lawful refl
+        (clean_debris _ (model point).yard (model point).book.rows served.book.rows has)
+        (own_after (asked.Write command path (file_sum (digest_of bytes) false)) served.reply (model point).book.rows (model point).yard.ways refl at.ways)
+    yards (request.Ensure command path) now served leads lawful has =
+        kept (asked.Ensure command path) served leads lawful refl (clean_debris _ (model point).yard (model point).book.rows served.book.rows has)
+        (own_after (asked.Ensure command path) served.reply (model point).book.rows (model point).yard.ways refl at.ways)
+    yards (request.Leave command) now served leads lawful has = absurd cc
+    yards (request.Declare command path tree) now served leads lawful has = absurd cc
+    yards (request.Copy command path source) now served leads lawful has = absurd cc
+    yards (request.Matches command path sum) now served leads lawful has = absurd cc
+    yards (request.Has command path) now served leads lawful has = absurd cc
+    yards (request.Invalidate command path) now served leads lawful has = absurd cc
+    yards (request.Clean cutoff mode) now served leads lawful has = absurd cc
+    yards request.Flush now served leads lawful has = absurd cc
+
+-- ---- makes
+
+-- the job of a make that began at a point
+abbrev make_job : Point → List (List ℕ) → ℕ → Job
+make_job point path stamp = record {
+  number = (model point).book.first + length (model point).history;
+  caller = 0;
+  task = task.Make path stamp;
+  lent = lent_for (task.Make path stamp) (model point).book.rows (model point).yard.ways;
+}
+
+-- the work state after a make began
+abbrev make_yard : Point → List (List ℕ) → ℕ → Yard
+make_yard point path stamp =
+    started ((model point).book.first + length (model point).history) 0 (task.Make path stamp) (model point).book.rows (model point).yard
+
+-- a make ends recorded as nothing
+nothing_recorded : (number : ℕ) (path : List (List ℕ)) (book : Book) (o : Option Row) →
+    recorded_as (end_make number path outcome.Made recorded.Nothing book o).reply ≡ recorded.Nothing
+nothing_recorded number path book None = refl
+nothing_recorded number path book (Some row) = refl
+
+-- the make that comes first leaves a run legal
+made-at : (path : List (List ℕ)) (stamp : ℕ) (point : Point) → IsLegalAt point → are_apart point.book.rows ≡ true →
+    first_task idle point.book ≡ Some (task.Make path stamp) → IsLegalAt (made (task.Make path stamp) point)
+made-at path stamp point at apart is =
+    let make : Task = task.Make path stamp in
+    let first_served : Served = record { reply = reply.Started; book = point.book } in
+    let begins : answer (model point) 0 (event.Begin make) reply.Started ≡ first_served =
+    ap (λ (b : Book). let s : Served = record { reply = reply.Started; book = b } in s) (sym at.lawful.book) in
+    let order : first_task (model point).yard (model point).book ≡ Some make =
+    idle_first (model point).yard (model point).book at.jobs at.debris ∙ ap (λ (b : Book). first_task idle b) (sym at.lawful.book) ∙ is in
+    let one : Point = (begin make point).point in
+    let begun : IsLawful one = lawful-entered (event.Begin make) first_served point at.lawful begins order (record { first = refl; now = refl }) in
+    let led_one : model one ≡ stepped (model point) (added (event.Begin make) first_served point) first_served =
+    led (event.Begin make) first_served point begins in
+    let job : Job = make_job point path stamp in
+    let jobs_one : (model one).yard.jobs ≡ job ∷ [] =
+    ap (λ (p : ModelPoint). p.yard.jobs) led_one ∙ ap (λ (js : List Job). js ++ job ∷ []) at.jobs in
+    let debris_one : (model one).yard.debris ≡ [] =
+    ap (λ (p : ModelPoint). p.yard.debris) led_one
+    ∙ ap (λ (ds : List Debris). filter (is_not_below path) ds) at.debris in
+    let ways_one : list_all is_own_way (model one).yard.ways ≡ true =
+    ap (λ (p : ModelPoint). list_all is_own_way p.yard.ways) led_one ∙ at.ways in
+    let mine : (job.number == next point) ≡ true = ap (λ (n : ℕ). n == next point) (number_is point at.lawful) ∙ itself (next point) in
+    let runs : find (is_job (next point)) (model one).yard.jobs ≡ Some job =
+    ap (λ (js : List Job). find (is_job (next point)) js) jobs_one ∙ ap (λ (b : Bool). cond b (Some job) None) mine in
+    let ends : Served = finish (next one) make outcome.Made recorded.Nothing one.book in
+    let same_ends : finish ((model one).book.first + length (model one).history) make outcome.Made (recorded_as ends.reply) (model one).book ≡ ends =
+    ap (λ how. finish ((model one).book.first + length (model one).history) make outcome.Made how (model one).book)
+    (nothing_recorded (next one) path one.book (find (is_declared path stamp) one.book.rows))
+    ∙ ap₂ (λ (n : ℕ) (b : Book). finish n make outcome.Made recorded.Nothing b) (number_is one begun) (sym begun.book) in
+    let done : answer (model one) 0 (event.Done (next point) outcome.Made) ends.reply ≡ ends =
+    ap (λ (o : Option Job). answer_done (model one) outcome.Made ends.reply o) runs ∙ same_ends in
+    let two : Point = (end_made (next point) make one).point in
+    let lawful : IsLawful two = lawful-entered (event.Done (next point) outcome.Made) ends one begun done (job, runs, refl, refl)
+    (finish-clock (next one) make outcome.Made recorded.Nothing one.book) in
+    let led_two = led (event.Done (next point) outcome.Made) ends one done in
+    let found = first_make_found idle point.book.rows point.book.tickets path stamp apart is in
+    let fresh : ends.reply ≡ reply.Fresh recorded.Nothing =
+    ap (λ (o : Option Row). (end_make (next one) path outcome.Made recorded.Nothing one.book o).reply) found.2 in
+    let after_all : Yard = ended (next point) outcome.Made ends.reply ends.book.rows (model one).yard
+    (find (is_job (next point)) (model one).yard.jobs) in
+    let left : Yard = record ((model one).yard) { jobs = filter (is_other_job (next point)) (model one).yard.jobs } in
+    let yard_two : after_all ≡ left =
+    ap (λ (o : Option Job). ended (next point) outcome.Made ends.reply ends.book.rows (model one).yard o) runs
+    ∙ ap (λ (o : Option Lent). returned o ends.book.rows (made_yard path outcome.Made ends.reply left))
+    (own_way stamp (model point).book.rows (model point).yard.ways at.ways)
+    ∙ ap (λ (r : Reply). made_yard path outcome.Made r left) fresh in
+    record {
+      lawful = lawful;
+      jobs = ap (λ (p : ModelPoint). p.yard.jobs) led_two ∙ ap (λ (y : Yard). y.jobs) yard_two
+          ∙ ap (λ (js : List Job). filter (is_other_job (next point)) js) jobs_one
+          ∙ ap (λ (b : Bool). cond (not b) (job ∷ []) []) mine;
+      debris = ap (λ (p : ModelPoint). p.yard.debris) led_two ∙ ap (λ (y : Yard). y.debris) yard_two ∙ debris_one;
+      ways = ap (λ (p : ModelPoint). list_all is_own_way p.yard.ways) led_two ∙ ap (λ (y : Yard). list_all is_own_way y.ways) yard_two ∙ ways_one;
+    }
+
+-- the rows of a lawful run are apart
+lawful_apart : (point : Point) → IsLawful point → are_apart point.book.rows ≡ true
+lawful_apart point lawful =
+    ap (λ (b : Book). are_apart b.rows) lawful.book ∙ history_apart (opened new_daemon) point.history refl
+
+-- what comes first where no job runs and nothing is debris leaves a run legal
+task-at : (task : Task) (point : Point) → IsLegalAt point → first_task idle point.book ≡ Some task → IsLegalAt (made task point)
+task-at (task.Make path stamp) point at is = made-at path stamp point at (lawful_apart point at.lawful) is
+task-at (task.Wipe path) point at is = absurd (no_wipe idle point.book.rows point.book.tickets path is)
 
 -- and by the first make, if there is one
 pub make_first-at : (point : Point) → IsLegalAt point → IsLegalAt (make_first point)
 make_first-at point at =
-    elim (first_task point.book.rows point.book.tickets) as
-    (λ o. first_task point.book.rows point.book.tickets ≡ o → IsLegalAt (made_if point o)) [
+    elim (first_task idle point.book) as
+    (λ o. first_task idle point.book ≡ o → IsLegalAt (made_if point o)) [
       | None ↦ λ is. at
-      | Some task ↦ λ is. made-at task point at is
+      | Some task ↦ λ is. task-at task point at is
     ] refl
 
 pub makes-at : (count : ℕ) (point : Point) → IsLegalAt point → IsLegalAt (makes count point)
@@ -127,10 +374,10 @@ drain-at point at = makes-at (count_by is_open point.book.tickets) point at
 pub tell_item-at : (it : Item) (point : Point) → IsLegalAt point → IsLegalAt (tell_item it point).point
 tell_item-at (item.Request asked) point at =
     elim (is_not_yet asked point.book) as
-    (λ b. IsLegalAt (cond b (told_not_yet point) (tell_step point (step (event.Asked (asked_of asked)) point))).point) [
-      | true ↦ at
-      | false ↦ step-at (asked_of asked) point at
-    ]
+    (λ b. is_not_yet asked point.book ≡ b → IsLegalAt (cond b (told_not_yet point) (tell_step point (ask (asked_of asked) point))).point) [
+      | true ↦ λ later. at
+      | false ↦ λ now. ask-at asked point at now
+    ] refl
 tell_item-at item.Drain point at = drain-at point at
 tell_item-at (item.Show path) point at = at
 
@@ -149,8 +396,8 @@ tell_lines-at (text ∷ texts) point at =
 
 -- the history of a run is legal, and the run's book is the book of it
 pub run-legal : (lines : List (List ℕ)) →
-    IsLegal empty_book (tell_lines lines start).point.history
-    × ((tell_lines lines start).point.book ≡ book_of empty_book (tell_lines lines start).point.history)
+    IsLegal new_daemon (tell_lines lines start).point.history
+    × ((tell_lines lines start).point.book ≡ book_of new_daemon (tell_lines lines start).point.history)
 run-legal lines =
     let at : IsLegalAt (tell_lines lines start).point = tell_lines-at lines start start-at in
-    (at.legal, at.book)
+    (at.lawful.legal, at.lawful.book)

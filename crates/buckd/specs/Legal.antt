@@ -1,21 +1,41 @@
 -- What holds of the history of a run at each point.
-use Rattle.std.specs.Prelude.{◌≡◌, ℕ, ◌≤◌, true, false, length}
-use Rattle.std.specs.List.{list_all, list_any}
-use Rattle.mat_model.specs.History.{IsLegal, book_of, ends_job, is_of}
+use Rattle.std.specs.Prelude.{◌≡◌, ℕ, Bool, true, false, List, [], length}
+use Rattle.std.specs.List.{list_all}
+use Rattle.mat_model.specs.History.{IsLegal, Opening, book_of, is_of, point_of}
+use Rattle.mat_model.specs.Yard.{Way, WayOf, copied, held, store}
 use Rattle.buckd.specs.declared.daemon.Run.{Run}
 use Rattle.buckd.specs.Run.{Point, empty_book}
 
--- a run is at a legal point: its history is legal from the empty book and its book is the history's, all entries are of the
--- one caller, no entry so far ends a job that is still to begin, and the first number and the moment are 0
-pub record IsLegalAt (point : Point) : Type 0 where
-  pub legal : IsLegal empty_book point.history
-  pub book : point.book ≡ book_of empty_book point.history
+-- a daemon begins with an empty book and an empty disk
+abbrev pub new_daemon : Opening
+new_daemon = record { book = empty_book; strays = [] }
+
+-- whether a row's bytes come from no other row
+abbrev pub is_own : Way → Bool
+is_own held = true
+is_own store = true
+is_own (copied source rest stamp holds) = false
+
+abbrev pub is_own_way : WayOf → Bool
+is_own_way entry = is_own entry.way
+
+-- a run is lawful at a point: its history is legal, its book is the history's, all entries are of the one caller, and the
+-- first number and the moment are 0
+pub record IsLawful (point : Point) : Type 0 where
+  pub legal : IsLegal new_daemon point.history
+  pub book : point.book ≡ book_of new_daemon point.history
   pub own : list_all (is_of 0) point.history ≡ true
-  pub idle : (job : ℕ) → length point.history ≤ job → list_any (ends_job job) point.history ≡ false
   pub first : point.book.first ≡ 0
   pub now : point.book.now ≡ 0
 
--- what is left of a run: a legal history from the empty book, and the book of it
+-- between two lines also no job runs, nothing is debris, and no row was copied
+pub record IsLegalAt (point : Point) : Type 0 where
+  pub lawful : IsLawful point
+  pub jobs : (point_of new_daemon point.history).yard.jobs ≡ []
+  pub debris : (point_of new_daemon point.history).yard.debris ≡ []
+  pub ways : list_all is_own_way (point_of new_daemon point.history).yard.ways ≡ true
+
+-- what is left of a run: a legal history from an empty book and an empty disk, and the book of it
 pub record IsLegalRun (run : Run) : Type 0 where
-  pub legal : IsLegal empty_book run.history
-  pub book : run.book ≡ book_of empty_book run.history
+  pub legal : IsLegal new_daemon run.history
+  pub book : run.book ≡ book_of new_daemon run.history

@@ -12,11 +12,14 @@ ghost use Rattle.mat_model.specs.declared.entries.Event.TheVariants as event;
 ghost use Rattle.mat_model.specs.declared.entries.Outcome.TheVariants as outcome;
 ghost use Rattle.mat_model.specs.declared.entries.Task.TheVariants as task;
 ghost use Rattle.mat_model.specs.declared.requests.Asked.TheVariants as asked;
+ghost use Rattle.mat_model.specs.declared.answers.Recorded.TheVariants as recorded;
+ghost use Rattle.mat_model.specs.Declarations.{new_row, write};
 ghost use Rattle.mat_model.specs.Gate.{is_live, enter};
 ghost use Rattle.mat_model.specs.Holding.{AreHeld};
-ghost use Rattle.mat_model.specs.Requests.{ensure, grant, new_row, write};
+ghost use Rattle.mat_model.specs.Requests.{ensure, grant};
 ghost use Rattle.mat_model.specs.Rows.{overlaps_row};
-ghost use Rattle.mat_model.specs.Work.{end_make, first_task, is_declared};
+ghost use Rattle.mat_model.specs.Work.{end_make, is_declared};
+ghost use Rattle.mat_model.specs.Yard.{first_task};
 ghost use Rattle.mat_model.proofs.Clear.{declared_alone};
 ghost use Rattle.region_port.specs.Disks.{disk_content};
 ghost use Rattle.buckd.specs.Making.{file_part};
@@ -80,7 +83,7 @@ fn file_tree(alloc: Global, digest: Digest) -> Result<Tree, Memory>
 
 /// A row as it is declared: the file of a digest, which doesn't stand yet.
 fn new_row(alloc: Global, number: u64, path: &Path, digest: Digest) -> Result<Row, Memory>
-    ensures { IfOk result (λ row. row ≡ new_row number 0 path.now (file_tree digest false) (file_sum digest false)) }
+    ensures { IfOk result (λ row. row ≡ new_row number 0 path.now (file_tree digest false)) }
 {
     let path = path.copy()?;
     let tree = file_tree(alloc, digest)?;
@@ -129,10 +132,19 @@ fn enter_event(history: &mut Vec<Entry>, event: Event, reply: Reply) -> Result<(
     Ok(())
 }
 
+/// Adds a request with its reply to a history.
+fn enter_asked(history: &mut Vec<Entry>, asked: Asked, reply: &Reply) -> Result<(), Memory>
+    ensures { OnOk result
+        (history.new.items ≡ history.old.items ++ entry_at (length history.old.items) (event.Asked asked) reply.now ∷ []) }
+{
+    let reply = reply.copy(*history.allocator())?;
+    enter_event(history, Event::Asked(asked), reply)
+}
+
 impl Daemon {
     ghost use Rattle.buckd.specs.Daemon.{book_of, point_of, task_for, Serves, Steps, Tells};
     ghost use Rattle.buckd.specs.Legal.{IsLegalRun};
-    ghost use Rattle.buckd.specs.Run.{asked_of, drain, is_not_yet, made, make_first, start, step, tell, tell_item};
+    ghost use Rattle.buckd.specs.Run.{ask, asked_of, drain, idle, is_not_yet, made, make_first, start, tell, tell_item};
     ghost use Rattle.buckd.specs.declared.items.Item.TheVariants as item;
     ghost use Rattle.buckd.specs.Sound.{kept_by, IsKept, IsPast, IsReady, IsSound, KeepsBook, KeepsDisk, KeepsRows};
 
@@ -228,6 +240,14 @@ impl Daemon {
                 self.is_live(*command) && rows::any_overlaps(self.rows.as_slice(), path)
             }
             Request::Ensure { .. } => false,
+            Request::Leave { .. } => true,
+            Request::Declare { .. } => true,
+            Request::Copy { .. } => true,
+            Request::Matches { .. } => true,
+            Request::Has { .. } => true,
+            Request::Invalidate { .. } => true,
+            Request::Clean { .. } => true,
+            Request::Flush => true,
         }
     }
 
@@ -256,7 +276,7 @@ impl Daemon {
         requires kept { IsKept self.old }
         requires digest { digest ≡ digest_of bytes }
         ensures served { IfOk result (λ reply. Serves
-            (declared_alone (length self.old.history.items) command path.now (file_tree digest false) (file_sum digest false) (book_of self.old))
+            (declared_alone (length self.old.history.items) command path.now (file_tree digest false) (book_of self.old))
             self.old self.new reply) }
         ensures kept { OnOk result (IsKept self.new) }
         ensures tickets { self.new.tickets ≡ self.old.tickets }
@@ -347,7 +367,7 @@ impl Daemon {
         requires clear { (is_live command (book_of self.old) && list_any (overlaps_row path) self.old.rows.items) ≡ false }
         requires kept { IsKept self.old }
         ensures served { IfOk result (λ reply.
-            Steps (step (event.Asked (asked.Write command path (file_sum (digest_of bytes) false))) (point_of self.old)) self.new reply) }
+            Steps (ask (asked.Write command path (file_sum (digest_of bytes) false)) (point_of self.old)) self.new reply) }
         ensures kept { OnOk result (IsKept self.new) }
         ensures past { (number : ℕ) → IsPast number self.old → OnOk result (IsPast number self.new) }
     {
@@ -358,7 +378,7 @@ impl Daemon {
             digest,
         };
         let asked = Asked::Write { command, path, sum };
-        enter_event(&mut self.history, Event::Asked(asked), reply)?;
+        enter_asked(&mut self.history, asked, &reply)?;
         Ok(reply)
     }
 
@@ -366,7 +386,7 @@ impl Daemon {
     fn serve(&mut self, request: Request) -> Result<Reply, Memory>
         requires served { is_not_yet request (book_of self.old) ≡ false }
         requires kept { IsKept self.old }
-        ensures served { IfOk result (λ reply. Steps (step (event.Asked (asked_of request)) (point_of self.old)) self.new reply) }
+        ensures served { IfOk result (λ reply. Steps (ask (asked_of request) (point_of self.old)) self.new reply) }
         ensures kept { OnOk result (IsKept self.new) }
         ensures past { (number : ℕ) → IsPast number self.old → OnOk result (IsPast number self.new) }
     {
@@ -374,7 +394,7 @@ impl Daemon {
             Request::Enter { command, state } => {
                 let reply = self.enter(command, state)?;
                 let asked = Asked::Enter { command, state };
-                enter_event(&mut self.history, Event::Asked(asked), reply)?;
+                enter_asked(&mut self.history, asked, &reply)?;
                 Ok(reply)
             }
             Request::Write {
@@ -385,15 +405,23 @@ impl Daemon {
             Request::Ensure { command, path } => {
                 let reply = self.ensure(command, &path)?;
                 let asked = Asked::Ensure { command, path };
-                enter_event(&mut self.history, Event::Asked(asked), reply)?;
+                enter_asked(&mut self.history, asked, &reply)?;
                 Ok(reply)
             }
+            Request::Leave { .. } => unreachable!(),
+            Request::Declare { .. } => unreachable!(),
+            Request::Copy { .. } => unreachable!(),
+            Request::Matches { .. } => unreachable!(),
+            Request::Has { .. } => unreachable!(),
+            Request::Invalidate { .. } => unreachable!(),
+            Request::Clean { .. } => unreachable!(),
+            Request::Flush => unreachable!(),
         }
     }
 
     /// The path and the stamp of the row that is made first.
     fn first_make(&self) -> Result<Option<(Path, u64)>, Memory>
-        ensures { IfOk result (λ make. option_map task_for make ≡ first_task self.now.rows.items self.now.tickets.items) }
+        ensures { IfOk result (λ make. option_map task_for make ≡ first_task idle (book_of self.now)) }
     {
         match tickets::first_row(self.rows.as_slice(), self.tickets.as_slice()) {
             Some(row) => {
@@ -422,7 +450,7 @@ impl Daemon {
     /// The end of a make: its row stands, and the tickets that are open on it are answered.
     fn end_make(&mut self, path: &Path, stamp: u64) -> Reply
         ensures served { Serves
-            (end_make (length self.old.history.items) path.now outcome.Made (book_of self.old) (find (is_declared path.now stamp) self.old.rows.items))
+            (end_make (length self.old.history.items) path.now outcome.Made recorded.Nothing (book_of self.old) (find (is_declared path.now stamp) self.old.rows.items))
             self.old self.new result }
         ensures same { KeepsDisk self.old self.new }
     {
@@ -443,7 +471,7 @@ impl Daemon {
 
     /// Makes the row that comes first.
     fn make(&mut self, path: Path, stamp: u64) -> Result<(), Memory>
-        requires first { first_task self.old.rows.items self.old.tickets.items ≡ Some (task.Make path stamp) }
+        requires first { first_task idle (book_of self.old) ≡ Some (task.Make path stamp) }
         requires sound { IsReady self.old }
         ensures point { OnOk result (point_of self.new ≡ made (task.Make path stamp) (point_of self.old)) }
         ensures sound { OnOk result (IsReady self.new) }
@@ -467,7 +495,7 @@ impl Daemon {
     fn make_first(&mut self) -> Result<bool, Memory>
         requires { IsReady self.old }
         ensures point { OnOk result (point_of self.new ≡ make_first (point_of self.old)) }
-        ensures none { IfOk result (λ more. more ≡ false → first_task self.old.rows.items self.old.tickets.items ≡ None) }
+        ensures none { IfOk result (λ more. more ≡ false → first_task idle (book_of self.old) ≡ None) }
         ensures sound { OnOk result (IsReady self.new) }
     {
         match self.first_make()? {

@@ -385,6 +385,7 @@ mod tests {
                 push_command(out, b"ensure ", *command)?;
                 push_path(out, path)
             }
+            _ => push_text(out, b"another request"),
         }
     }
 

@@ -2,12 +2,13 @@
 ghost use Rattle.std.specs.Prelude.{◌≡◌, ◌+◌, ◌^◌, ◌<◌, ◌++◌, codes, decimal, OnOk};
 ghost use Rattle.std.specs.List.{flat_map};
 ghost use Rattle.mat_digest.specs.Digests.{digest_text};
-ghost use Rattle.buckd.specs.Texts.{answer_line, answer_lines, answer_text, file_text, given_line, kind_text, node_line, numbered, ready_text, reply_text, shown_text, ticket_line, what_text};
+ghost use Rattle.buckd.specs.Texts.{all_bytes, answer_line, answer_lines, answer_text, clean_text, device_text, given_line, gone_text, kind_text, limit_text, node_line, note_text, numbered, ready_text, reply_text, shown_text, stray_text, ticket_line};
 
 use mat_digest::Digest;
-use mat_model::{Answer, Given, Reply, Ticket};
-use mat_path::Memory;
-use mat_tree::{Flat, Kind, Sum, What};
+use mat_model::{Answer, Device, FaultNote, Given, Gone, Limit, Reply, Ticket};
+use mat_path::{Memory, Path};
+use mat_tree::{Flat, Kind, Sum};
+use tree_words::push_node;
 
 /// Puts a text behind.
 pub fn push_text(out: &mut Vec<u8>, text: &[u8]) -> Result<(), Memory>
@@ -62,24 +63,155 @@ fn push_ready(out: &mut Vec<u8>, stamp: u64, sum: &Sum) -> Result<(), Memory>
     push_digest(out, &sum.digest)
 }
 
+// Puts a note of a failed call behind, with a word before it.
+fn push_note(out: &mut Vec<u8>, word: &[u8], note: &FaultNote) -> Result<(), Memory>
+    ensures ok { OnOk result (out.new.items ≡ out.old.items ++ note_text word.now note.now) }
+{
+    push_text(out, word)?;
+    push_device(out, note.device)?;
+    push_numbered(out, b" ", note.before)?;
+    push_numbered(out, b" ", note.after)
+}
+
+// Puts the name of a device behind.
+fn push_device(out: &mut Vec<u8>, device: Device) -> Result<(), Memory>
+    ensures ok { OnOk result (out.new.items ≡ out.old.items ++ device_text device) }
+{
+    match device {
+        Device::Disk => push_text(out, b"disk"),
+        Device::Store => push_text(out, b"store"),
+        Device::Keeper => push_text(out, b"keeper"),
+    }
+}
+
+// Puts the name of a limit behind.
+fn push_limit(out: &mut Vec<u8>, limit: Limit) -> Result<(), Memory>
+    ensures ok { OnOk result (out.new.items ≡ out.old.items ++ limit_text limit) }
+{
+    match limit {
+        Limit::History => push_text(out, b"history"),
+        Limit::Nodes => push_text(out, b"nodes"),
+        Limit::Waiting => push_text(out, b"waiting"),
+        Limit::Rows => push_text(out, b"rows"),
+        Limit::Held => push_text(out, b"held"),
+        Limit::Asked => push_text(out, b"asked"),
+        Limit::Holds => push_text(out, b"holds"),
+    }
+}
+
+// How many bytes some removed rows have, or the last number that 64 bits hold.
+fn all_bytes(rows: &[Gone]) -> u64
+    ensures { result ≡ all_bytes rows.now }
+{
+    let mut sum = 0u64;
+    for row in rows {
+        sum = sum.saturating_add(row.bytes);
+    }
+    sum
+}
+
+// Puts the line of a removed row behind, with a newline before it.
+fn push_gone(out: &mut Vec<u8>, gone: &Gone) -> Result<(), Memory>
+    ensures ok { OnOk result (out.new.items ≡ out.old.items ++ gone_text gone.now) }
+{
+    push_text(out, b"\nrow ")?;
+    push_text(out, gone.path.write()?.as_slice())?;
+    push_numbered(out, b" ", gone.bytes)
+}
+
+// Puts the line of a stray behind, with a newline before it.
+fn push_stray(out: &mut Vec<u8>, path: &Path) -> Result<(), Memory>
+    ensures ok { OnOk result (out.new.items ≡ out.old.items ++ stray_text path.now) }
+{
+    push_text(out, b"\nstray ")?;
+    push_text(out, path.write()?.as_slice())
+}
+
+// Puts the lines of removed rows behind.
+fn push_all_gone(out: &mut Vec<u8>, rows: &[Gone]) -> Result<(), Memory>
+    ensures ok { OnOk result (out.new.items ≡ out.old.items ++ flat_map gone_text rows.now) }
+{
+    for row in rows {
+        push_gone(out, row)?;
+    }
+    Ok(())
+}
+
+// Puts the lines of strays behind.
+fn push_strays(out: &mut Vec<u8>, paths: &[Path]) -> Result<(), Memory>
+    ensures ok { OnOk result (out.new.items ≡ out.old.items ++ flat_map stray_text paths.now) }
+{
+    for path in paths {
+        push_stray(out, path)?;
+    }
+    Ok(())
+}
+
+// Puts what a clean removed behind, or would remove.
+fn push_clean(out: &mut Vec<u8>, dry: bool, rows: &[Gone], strays: &[Path]) -> Result<(), Memory>
+    ensures ok { OnOk result (out.new.items ≡ out.old.items ++ clean_text dry rows.now strays.now) }
+{
+    let word = if dry {
+        b"dry ".as_slice()
+    } else {
+        b"clean ".as_slice()
+    };
+    push_numbered(out, word, rows.len() as u64)?;
+    push_numbered(out, b" ", all_bytes(rows))?;
+    push_numbered(out, b" ", strays.len() as u64)?;
+    push_all_gone(out, rows)?;
+    push_strays(out, strays)
+}
+
 /// Puts a reply behind.
 pub fn push_reply(out: &mut Vec<u8>, reply: &Reply) -> Result<(), Memory>
     ensures ok { OnOk result (out.new.items ≡ out.old.items ++ reply_text reply.now) }
 {
     match reply {
         Reply::Entered => push_text(out, b"entered"),
-        Reply::Queued(place) => push_numbered(out, b"queued ", *place),
-        Reply::Known => push_text(out, b"known"),
-        Reply::NotLive => push_text(out, b"notlive"),
+        Reply::Left(count) => push_numbered(out, b"left ", *count),
         Reply::Declared(stamp) => push_numbered(out, b"declared ", *stamp),
         Reply::Kept(stamp) => push_numbered(out, b"kept ", *stamp),
+        Reply::Same(stamp) => push_numbered(out, b"same ", *stamp),
+        Reply::Other => push_text(out, b"other"),
+        Reply::Nothing => push_text(out, b"none"),
+        Reply::Stands(stamp) => push_numbered(out, b"stands ", *stamp),
+        Reply::NotMade(stamp) => push_numbered(out, b"not made ", *stamp),
         Reply::Ready { stamp, sum } => push_ready(out, *stamp, sum),
         Reply::Asked(ticket) => push_numbered(out, b"open ", *ticket),
+        Reply::Invalid(count) => push_numbered(out, b"invalid ", *count),
+        Reply::Cleaned { dry, rows, strays } => {
+            push_clean(out, *dry, rows.as_slice(), strays.as_slice())
+        }
+        Reply::Flushed(count) => push_numbered(out, b"flushed ", *count),
+        Reply::NotLive => push_text(out, b"notlive"),
+        Reply::Known => push_text(out, b"known"),
+        Reply::Queued(place) => push_numbered(out, b"queued ", *place),
+        Reply::Unknown => push_text(out, b"unknown"),
+        Reply::Busy(count) => push_numbered(out, b"busy ", *count),
+        Reply::NoSource => push_text(out, b"nosource"),
+        Reply::TooLong => push_text(out, b"toolong"),
         Reply::Undeclared => push_text(out, b"undeclared"),
+        Reply::Fault(note) => push_note(out, b"fault ", note),
+        Reply::Full(limit) => {
+            push_text(out, b"full ")?;
+            push_limit(out, *limit)
+        }
+        Reply::NoMemory => push_text(out, b"nomem"),
         Reply::Started => push_text(out, b"started"),
+        Reply::Refused(note) => push_note(out, b"refused ", note),
         Reply::Fresh(_) => push_text(out, b"done fresh"),
         Reply::Stale => push_text(out, b"done stale"),
     }
+}
+
+// Puts two digests behind, with a space between them.
+fn push_digests(out: &mut Vec<u8>, first: &Digest, second: &Digest) -> Result<(), Memory>
+    ensures ok { OnOk result (out.new.items ≡ out.old.items ++ digest_text first.now ++ codes " " ++ digest_text second.now) }
+{
+    push_digest(out, first)?;
+    push_text(out, b" ")?;
+    push_digest(out, second)
 }
 
 // Puts an answer behind.
@@ -89,6 +221,16 @@ fn push_answer(out: &mut Vec<u8>, answer: &Answer) -> Result<(), Memory>
     match answer {
         Answer::Ready { stamp, sum } => push_ready(out, *stamp, sum),
         Answer::Undeclared => push_text(out, b"undeclared"),
+        Answer::Missing(digest) => {
+            push_text(out, b"missing ")?;
+            push_digest(out, digest)
+        }
+        Answer::Corrupt { wanted, found } => {
+            push_text(out, b"corrupt ")?;
+            push_digests(out, wanted, found)
+        }
+        Answer::Fault(note) => push_note(out, b"fault ", note),
+        Answer::NoMemory => push_text(out, b"nomem"),
     }
 }
 
@@ -148,42 +290,11 @@ pub fn push_answer_lines(
     Ok(())
 }
 
-// Puts what a node is behind.
-fn push_what(out: &mut Vec<u8>, what: &What) -> Result<(), Memory>
-    ensures ok { OnOk result (out.new.items ≡ out.old.items ++ what_text what.now) }
-{
-    match what {
-        What::File { digest, exec } => push_file(out, digest, *exec),
-        What::Dir => push_text(out, b"d"),
-        What::Link(target) => {
-            push_text(out, b"l ")?;
-            push_text(out, target.bytes())
-        }
-    }
-}
-
-// Puts a file behind: its letter and its digest.
-fn push_file(out: &mut Vec<u8>, digest: &Digest, exec: bool) -> Result<(), Memory>
-    ensures ok { OnOk result (out.new.items ≡ out.old.items ++ file_text digest.now exec) }
-{
-    push_text(
-        out,
-        if exec {
-            b"x ".as_slice()
-        } else {
-            b"f ".as_slice()
-        },
-    )?;
-    push_digest(out, digest)
-}
-
-// Puts the line of a node behind: what it is, and its rel.
-fn push_node(out: &mut Vec<u8>, node: &Flat) -> Result<(), Memory>
+// Puts the line of a node behind: its words.
+fn push_node_line(out: &mut Vec<u8>, node: &Flat) -> Result<(), Memory>
     ensures ok { OnOk result (out.new.items ≡ out.old.items ++ node_line node.now) }
 {
-    push_what(out, &node.what)?;
-    push_text(out, b" ")?;
-    push_text(out, node.rel.write()?.as_slice())?;
+    push_node(out, node)?;
     push_text(out, b"\n")
 }
 
@@ -192,7 +303,7 @@ fn push_nodes(out: &mut Vec<u8>, nodes: &[Flat]) -> Result<(), Memory>
     ensures ok { OnOk result (out.new.items ≡ out.old.items ++ flat_map node_line nodes.now) }
 {
     for node in nodes {
-        push_node(out, node)?;
+        push_node_line(out, node)?;
     }
     Ok(())
 }
@@ -210,7 +321,8 @@ pub fn push_shown(out: &mut Vec<u8>, nodes: &[Flat]) -> Result<(), Memory>
 mod tests {
     use super::*;
     use mat_model::Recorded;
-    use mat_path::{Path, Rel, Target};
+    use mat_path::{Items, Rel, Target};
+    use mat_tree::What;
     use std::alloc::Global;
     use std::test::Fail;
 
@@ -237,9 +349,30 @@ mod tests {
         }
     }
 
+    fn gone(alloc: Global, bytes: u64) -> Result<Gone, Fail> {
+        Ok(Gone {
+            path: Path::read(alloc, b"p")?,
+            bytes,
+        })
+    }
+
+    /// A clean of two rows with more bytes than 64 bits count, and of one stray.
+    fn cleaned(alloc: Global) -> Result<Reply, Fail> {
+        let mut rows = Vec::new(alloc);
+        rows.push(gone(alloc, u64::MAX)?)?;
+        rows.push(gone(alloc, 1)?)?;
+        let mut strays = Vec::new(alloc);
+        strays.push(Path::read(alloc, b"a/b")?)?;
+        Ok(Reply::Cleaned {
+            dry: false,
+            rows: Items::of(rows),
+            strays: Items::of(strays),
+        })
+    }
+
     #[test]
     fn replies(rt: HostRuntime) -> Result<(), Fail> {
-        let table: [(Reply, &[u8]); 14] = [
+        let table: [(Reply, &[u8]); 16] = [
             (Reply::Entered, b"entered"),
             (Reply::Queued(1), b"queued 1"),
             (Reply::Known, b"known"),
@@ -266,6 +399,18 @@ mod tests {
             (Reply::Started, b"started"),
             (Reply::Fresh(Recorded::Nothing), b"done fresh"),
             (Reply::Stale, b"done stale"),
+            (
+                Reply::Refused(FaultNote {
+                    device: Device::Keeper,
+                    before: 0,
+                    after: 1,
+                }),
+                b"refused keeper 0 1",
+            ),
+            (
+                cleaned(rt.alloc())?,
+                b"clean 2 18446744073709551615 1\nrow p 18446744073709551615\nrow p 1\nstray a/b",
+            ),
         ];
         for (reply, text) in table.iter() {
             let mut out = Vec::new(rt.alloc());

@@ -2,8 +2,9 @@
 ghost use Rattle.std.specs.Prelude.{◌≡◌, false, count_by, map, IfSome, OnOk};
 ghost use Rattle.std.specs.Option.{option_and_then, option_copied};
 ghost use Rattle.std.specs.List.{list_any};
-ghost use Rattle.mat_model.specs.Requests.{is_hold, is_open, with_hold};
-ghost use Rattle.mat_model.specs.Work.{answered_by, first_task, make_of, task_of, waits_for};
+ghost use Rattle.mat_model.specs.Tickets.{answered_by, is_hold, is_open, waits_for, with_hold};
+ghost use Rattle.mat_model.specs.Yard.{first_make, make_of, task_of};
+ghost use Rattle.buckd.specs.Run.{idle};
 
 use crate::rows;
 use mat_model::{Answer, Given, Hold, Row, Ticket};
@@ -25,7 +26,7 @@ pub fn open_count(tickets: &[Ticket]) -> usize
 
 /// The row that doesn't stand and that a ticket waits for.
 fn waited_row<'a>(rows: &'a [Row], ticket: &Ticket) -> Option<&'a Row>
-    ensures task { option_and_then make_of (option_copied result) ≡ task_of rows.entry.now ticket.now }
+    ensures task { option_and_then (make_of idle rows.entry.now) (option_copied result) ≡ task_of idle rows.entry.now ticket.now }
     ensures waits { IfSome result (λ row. row.now.stands ≡ false) }
 {
     if !is_open(ticket) {
@@ -39,7 +40,7 @@ fn waited_row<'a>(rows: &'a [Row], ticket: &Ticket) -> Option<&'a Row>
 
 /// The row that is made first: the one with the lowest open ticket.
 pub fn first_row<'a>(rows: &'a [Row], tickets: &[Ticket]) -> Option<&'a Row>
-    ensures task { option_and_then make_of (option_copied result) ≡ first_task rows.entry.now tickets.now }
+    ensures task { option_and_then (make_of idle rows.entry.now) (option_copied result) ≡ first_make idle rows.entry.now tickets.now }
     ensures waits { IfSome result (λ row. row.now.stands ≡ false) }
 {
     for ticket in tickets {

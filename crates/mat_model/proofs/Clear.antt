@@ -14,8 +14,9 @@ use Rattle.mat_model.specs.declared.book.Hold.{Hold}
 use Rattle.mat_model.specs.declared.answers.Answer.TheVariants as answer
 use Rattle.mat_model.specs.declared.answers.Reply.TheVariants as reply
 use Rattle.mat_model.specs.Gate.{Served, is_live}
-use Rattle.mat_model.specs.Rows.{covers, is_at_path, overlaps_row, is_clear_of, put_row}
-use Rattle.mat_model.specs.Requests.{is_equal_row, is_open, left_ticket, with_answer, with_hold, new_row, declare, declare_row, replace_rows, write}
+use Rattle.mat_model.specs.Rows.{covers, is_at_path, is_clear_of, overlaps_row, put_row}
+use Rattle.mat_model.specs.Declarations.{declare, declare_row, is_equal_row, new_row, replace_rows, write}
+use Rattle.mat_model.specs.Tickets.{is_open, left_ticket, with_answer, with_hold}
 use Rattle.mat_model.proofs.Tests.{and_true_parts, filter_none, filter_all, find_none}
 
 -- a row at a path overlaps it
@@ -63,29 +64,29 @@ replace_clear number command path new book clear =
     ∙ ap (λ (tickets : List Ticket). changed book number (put_row new book.rows) holds tickets) (all_left number (put_row new book.rows) book.tickets)
 
 -- a new row comes, and nothing else changes but the hold
-pub declare_clear : (number command : ℕ) (path : List (List ℕ)) (tree : List Flat) (sum : Sum) (book : Book) →
+pub declare_clear : (number command : ℕ) (path : List (List ℕ)) (tree : List Flat) (book : Book) →
     list_any (overlaps_row path) book.rows ≡ false →
-    declare number command path tree sum book ≡ record {
+    declare number command path tree book ≡ record {
       reply = reply.Declared number;
       book = record book {
-        rows = put_row (new_row number book.now path tree sum) book.rows;
+        rows = put_row (new_row number book.now path tree) book.rows;
         holds = with_hold command path book.holds;
       };
     }
-declare_clear number command path tree sum book clear =
-    ap (λ (found : Option Row). declare_row number command path tree sum book found)
+declare_clear number command path tree book clear =
+    ap (λ (found : Option Row). declare_row number command path tree book found)
     (find_none (is_equal_row path tree) (overlaps_row path) (equal_row_overlaps path tree) book.rows clear)
-    ∙ replace_clear number command path (new_row number book.now path tree sum) book clear
+    ∙ replace_clear number command path (new_row number book.now path tree) book clear
 
 -- what a declaration at a clear path does
-abbrev pub declared_alone : ℕ → ℕ → List (List ℕ) → List Flat → Sum → Book → Served
-declared_alone number command path tree sum book =
-    changed book number (put_row (new_row number book.now path tree sum) book.rows) (with_hold command path book.holds) book.tickets
+abbrev pub declared_alone : ℕ → ℕ → List (List ℕ) → List Flat → Book → Served
+declared_alone number command path tree book =
+    changed book number (put_row (new_row number book.now path tree) book.rows) (with_hold command path book.holds) book.tickets
 
 -- a file that a live command writes at a clear path
 pub write_clear : (number command : ℕ) (path : List (List ℕ)) (digest : Digest) (book : Book) →
     is_live command book ≡ true → list_any (overlaps_row path) book.rows ≡ false →
     write number command path (file_sum digest false) book
-    ≡ declared_alone number command path (file_tree digest false) (file_sum digest false) book
+    ≡ declared_alone number command path (file_tree digest false) book
 write_clear number command path digest book live clear =
-    rw live (declare_clear number command path (file_tree digest false) (file_sum digest false) book clear)
+    rw live (declare_clear number command path (file_tree digest false) book clear)

@@ -1,7 +1,7 @@
 -- The laws of a book: what a request, the end of a job and a history leave of its rows and its tickets.
 use Rattle.std.proofs.Common.{◌≡◌, ℕ, zero, suc, ◌+◌, ◌==◌, ◌<◌, ◌≤◌, nat_lt, Bool, true, false, not, ◌&&◌, ◌||◌, List, [], ◌∷◌, ◌++◌, length, drop, Option, Some, None, cond, inl, inr, refl, sym, ap, ap₂, subst, ◌∙◌, map, count_by, Contains, find, arith, length-append}
 use Rattle.std.specs.List.{list_any, list_all, filter, slice_get}
-use Rattle.std.specs.Option.{option_map, option_and_then, option_or}
+use Rattle.std.specs.Option.{is_none, option_map, option_and_then, option_or}
 use Rattle.std.proofs.lemmas.Bool.{both_ways, and_from}
 use Rattle.std.proofs.lemmas.Bool.Decides.{nat_tests}
 use Rattle.std.proofs.lemmas.List.Sums.{sum_by-cons}
@@ -11,14 +11,18 @@ use Rattle.mat_path.proofs.PathLemmas.{same_names-eq}
 use Rattle.mat_tree.specs.declared.flat.Flat.{Flat}
 use Rattle.mat_tree.specs.declared.sum.Sum.{Sum}
 use Rattle.mat_digest.specs.declared.digest.Digest.{Digest}
-use Rattle.mat_tree.specs.Trees.{has_node, file_tree, is_exec, same_tree, same_bool, same_digest}
+use Rattle.mat_tree.specs.Trees.{has_node, file_tree, same_tree, same_bool, same_digest, same_sum}
 use Rattle.mat_tree.proofs.Paths.{same_name_refl}
 use Rattle.mat_model.specs.declared.answers.Answer.{Answer}
 use Rattle.mat_model.specs.declared.answers.Answer.TheVariants as answer
+use Rattle.mat_model.specs.declared.answers.FaultNote.{FaultNote}
+use Rattle.mat_model.specs.declared.answers.Recorded.{Recorded}
+use Rattle.mat_model.specs.declared.answers.Reply.{Reply}
 use Rattle.mat_model.specs.declared.answers.Reply.TheVariants as reply
 use Rattle.mat_model.specs.declared.book.Book.{Book}
 use Rattle.mat_model.specs.declared.book.Row.{Row}
 use Rattle.mat_model.specs.declared.book.Ticket.{Ticket}
+use Rattle.mat_model.specs.declared.book.Waiter.{Waiter}
 use Rattle.mat_model.specs.declared.entries.Entry.{Entry}
 use Rattle.mat_model.specs.declared.entries.Event.{Event}
 use Rattle.mat_model.specs.declared.entries.Event.TheVariants as event
@@ -28,16 +32,22 @@ use Rattle.mat_model.specs.declared.entries.Task.{Task}
 use Rattle.mat_model.specs.declared.entries.Task.TheVariants as task
 use Rattle.mat_model.specs.declared.requests.Asked.{Asked}
 use Rattle.mat_model.specs.declared.requests.Asked.TheVariants as asked
-use Rattle.mat_model.specs.Gate.{Served, is_live, is_waiting, is_state, admits}
-use Rattle.mat_model.specs.Rows.{covers, cover, is_at_path, overlaps_row, is_clear_of, put_row, used, used_row, standing_row, comes_before, is_apart, are_apart}
-use Rattle.mat_model.specs.Requests.{is_equal_row, is_open, is_lost, left_ticket, with_answer, new_row, declare, declare_row, grant, ensure, ensure_row, at_moment, serve, write}
-use Rattle.mat_model.specs.Work.{is_declared, waits_for, answered_by, end_make, finish, make_of, task_of, first_task}
-use Rattle.mat_model.specs.History.{number_after, task_of_job, end_job, answer_event, after, book_from}
-use Rattle.mat_model.specs.Laws.{IsReady, IsKept, AreKept, StillStands, IsLeftOut, IsAnswered, disturbs, disturbs_by, is_disturbed, written, HasDeclared, IsGated, is_nobody}
-use Rattle.mat_model.proofs.Tests.{and_true_parts, or_false_parts, not_true}
+use Rattle.mat_model.specs.declared.requests.CleanMode.TheVariants as mode
+use Rattle.mat_model.specs.Gate.{Admitted, Served, admit, admits, admits_front, admitted, departed, is_live, is_other, is_state, is_waiting, state_of}
+use Rattle.mat_model.specs.Rows.{are_apart, comes_before, cover, covers, is_apart, is_at_path, is_clear_of, overlaps_row, put_row, standing_row, used, used_row}
+use Rattle.mat_model.specs.Declarations.{copy_tree, declare, declare_row, declared_at, is_equal_row, new_row, stands_at_path, write, written_tree}
+use Rattle.mat_model.specs.Tickets.{answered_by, answered_by_any, is_lost, is_open, left_ticket, waits_for, waits_for_any, with_answer}
+use Rattle.mat_model.specs.Requests.{Aside, at_moment, ensure, ensure_row, grant, is_open_of, match_row, serve}
+use Rattle.mat_model.specs.Work.{end_make, finish, is_declared, refuse, rows_of_task}
+use Rattle.mat_model.specs.Yard.{Yard, first_make, make_of, path_of_task, running, task_of}
+use Rattle.mat_model.specs.History.{Point, after, after_all, answer, answer_done, aside, begin_with, is_store_fault, is_keeper, next_number, recorded_as, refusal_note}
+use Rattle.mat_model.specs.Laws.{AreKept, HasDeclared, IsAnswered, IsGated, IsKept, IsLeftOut, IsReady, StillStands, declares, disturbs, disturbs_by, is_disturbed, is_nobody}
+use Rattle.mat_model.specs.Kept.{may_fail, overlaps_kept}
+use Rattle.mat_model.proofs.Tests.{and_true_parts, false_by, not_true, or_false_parts}
 use Rattle.mat_model.proofs.Apart.{put_row-apart, apart-map}
 use Rattle.mat_model.proofs.Stood.{used-path, used-tree, used-stands, standing-path, found_passes, contains_cases, contains_first, contains_more}
-use Rattle.mat_model.proofs.Makes.{found_contains, make_of_parts, apart_declared, first_task_found}
+use Rattle.mat_model.proofs.Serving.{finished_by, served_by}
+use Rattle.mat_model.proofs.Makes.{found_contains, make_of_parts, apart_declared, first_make_found}
 
 -- what an ensure is granted is a row that stands
 granted : (number command : ℕ) (path : List (List ℕ)) (book changed : Book) (row : Row) (stamp : ℕ) (sum : Sum) →
@@ -88,6 +98,11 @@ kept_answered row number given ticket =
     kept_or (waits_for row ticket) number given ticket
     (λ waits. (and_true_parts (is_open ticket) (covers ticket.asked row) waits).0)
 
+kept_answered_any : (rows : List Row) (number : ℕ) (given : Answer) (ticket : Ticket) → IsKept ticket (answered_by_any rows number given ticket)
+kept_answered_any rows number given ticket =
+    kept_or (waits_for_any rows ticket) number given ticket
+    (λ waits. (and_true_parts (is_open ticket) (list_any (covers ticket.asked) rows) waits).0)
+
 -- tickets are kept where nothing changes, where one comes, and where each is kept
 kept_same : (tickets : List Ticket) → AreKept tickets tickets
 kept_same [] = tt
@@ -101,94 +116,32 @@ kept_map : (f : Ticket → Ticket) → ((ticket : Ticket) → IsKept ticket (f t
 kept_map f each [] = tt
 kept_map f each (ticket ∷ tickets) = (each ticket, kept_map f each tickets)
 
--- the tickets after a row was put in the place of those that overlap a path
-abbrev left_tickets : ℕ → List (List ℕ) → Row → List Row → List Ticket → List Ticket
-left_tickets number path new rows tickets =
-    map (left_ticket number (filter (overlaps_row path) rows) (put_row new (filter (is_clear_of path) rows))) tickets
-
--- a property of the rows and the tickets that are left
-abbrev Leaves : (List Row → List Ticket → Type 0) → Served → Type 0
-Leaves R served = R served.book.rows served.book.tickets
-
-leaves_either : (R : List Row → List Ticket → Type 0) (b : Bool) (first second : Served) → Leaves R first → Leaves R second →
-    Leaves R (cond b first second)
-leaves_either R true first second one other = one
-leaves_either R false first second one other = other
-
-declared_by : (R : List Row → List Ticket → Type 0) (number command : ℕ) (path : List (List ℕ)) (tree : List Flat) (sum : Sum) (book : Book) →
-    ((n : ℕ) → R (used path n book.rows) book.tickets) →
-    ((new : Row) → new.path ≡ path → R (put_row new (filter (is_clear_of path) book.rows)) (left_tickets number path new book.rows book.tickets)) →
-    (o : Option Row) → Leaves R (declare_row number command path tree sum book o)
-declared_by R number command path tree sum book uses puts None = puts (new_row number book.now path tree sum) refl
-declared_by R number command path tree sum book uses puts (Some row) = uses book.now
-
-ensured_by : (R : List Row → List Ticket → Type 0) (number command : ℕ) (path : List (List ℕ)) (book : Book) →
-    R book.rows book.tickets →
-    ((at : List (List ℕ)) (n : ℕ) (more : List Ticket) → R (used at n book.rows) (book.tickets ++ more)) →
-    ((at : List (List ℕ)) (n : ℕ) → R (used at n book.rows) book.tickets) →
-    (o : Option Row) → Leaves R (ensure_row number command path book o)
-ensured_by R number command path book same asks uses None = same
-ensured_by R number command path book same asks uses (Some row) =
-    leaves_either R row.stands _ _ (uses row.path book.now) (asks row.path book.now _)
-
--- what holds of rows and tickets that are left alone, whose rows are used, to which a ticket comes, and among which a row is put, holds after
--- a request
-served_by : (R : List Row → List Ticket → Type 0) (number moment : ℕ) (request : Asked) (book : Book) →
-    R book.rows book.tickets →
-    ((path : List (List ℕ)) (n : ℕ) (more : List Ticket) → R (used path n book.rows) (book.tickets ++ more)) →
-    ((path : List (List ℕ)) (n : ℕ) → R (used path n book.rows) book.tickets) →
-    ((path : List (List ℕ)) (new : Row) → new.path ≡ path → written request ≡ Some path →
-    R (put_row new (filter (is_clear_of path) book.rows)) (left_tickets number path new book.rows book.tickets)) →
-    Leaves R (serve number moment request book)
-served_by R number moment (asked.Enter command state) book same asks uses puts =
-    leaves_either R (is_live command (at_moment moment book) || is_waiting command (at_moment moment book)) _ _ same
-    (leaves_either R (admits state (at_moment moment book)) _ _ same same)
-served_by R number moment (asked.Write command path sum) book same asks uses puts =
-    leaves_either R (is_live command (at_moment moment book)) _ _
-    (declared_by R number command path (file_tree sum.digest (is_exec sum.kind)) sum (at_moment moment book) (uses path)
-    (λ new at. puts path new at refl) (find (is_equal_row path (file_tree sum.digest (is_exec sum.kind))) book.rows))
-    same
-served_by R number moment (asked.Ensure command path) book same asks uses puts =
-    leaves_either R (is_live command (at_moment moment book)) _ _
-    (ensured_by R number command path (at_moment moment book) same asks uses (cover book.rows path))
-    same
-
--- the same of the end of a job: rows and tickets are left alone, or a row comes to stand and the tickets on it are answered
-ended_by : (R : List Row → List Ticket → Type 0) (number : ℕ) (path : List (List ℕ)) (out : Outcome) (book : Book) →
-    R book.rows book.tickets →
-    ((row : Row) → R (map (standing_row path) book.rows) (map (answered_by row number (answer.Ready row.stamp row.sum)) book.tickets)) →
-    (o : Option Row) → Leaves R (end_make number path out book o)
-ended_by R number path outcome.Made book same ends None = same
-ended_by R number path outcome.Made book same ends (Some row) = ends row
-
-finished_by : (R : List Row → List Ticket → Type 0) (number : ℕ) (task : Task) (out : Outcome) (book : Book) →
-    R book.rows book.tickets →
-    ((path : List (List ℕ)) (row : Row) →
-    R (map (standing_row path) book.rows) (map (answered_by row number (answer.Ready row.stamp row.sum)) book.tickets)) →
-    Leaves R (finish number task out book)
-finished_by R number (task.Make path stamp) out book same ends =
-    ended_by R number path out book same (ends path) (find (is_declared path stamp) book.rows)
-
 -- a request and the end of a job keep each ticket
-pub serve_kept : (number moment : ℕ) (request : Asked) (book : Book) → AreKept book.tickets (serve number moment request book).book.tickets
-serve_kept number moment request book =
-    served_by (λ (rows : List Row) (tickets : List Ticket). AreKept book.tickets tickets) number moment request book
-    (kept_same book.tickets)
-    (λ path n more. kept_more book.tickets more)
-    (λ path n. kept_same book.tickets)
-    (λ path new at is.
-    kept_map (left_ticket number (filter (overlaps_row path) book.rows) (put_row new (filter (is_clear_of path) book.rows)))
-    (kept_left number (filter (overlaps_row path) book.rows) (put_row new (filter (is_clear_of path) book.rows))) book.tickets)
+pub serve_kept : (number moment : ℕ) (aside : Aside) (request : Asked) (book : Book) → AreKept book.tickets (serve number moment aside request book).book.tickets
+serve_kept number moment aside request book =
+    served_by (λ (rows : List Row) (tickets : List Ticket). AreKept book.tickets tickets) number moment aside request book (record {
+      same = kept_same book.tickets;
+      asks = λ path n more. kept_more book.tickets more;
+      uses = λ path n. kept_same book.tickets;
+      puts = λ path new at is.
+          kept_map (left_ticket number (filter (overlaps_row path) book.rows) (put_row new (filter (is_clear_of path) book.rows)))
+          (kept_left number (filter (overlaps_row path) book.rows) (put_row new (filter (is_clear_of path) book.rows))) book.tickets;
+      removes = λ gone left opposite disturbed.
+          kept_map (left_ticket number (filter gone book.rows) (filter left book.rows))
+          (kept_left number (filter gone book.rows) (filter left book.rows)) book.tickets;
+    })
 
-pub finish_kept : (number : ℕ) (task : Task) (out : Outcome) (book : Book) → AreKept book.tickets (finish number task out book).book.tickets
-finish_kept number task out book =
-    finished_by (λ (rows : List Row) (tickets : List Ticket). AreKept book.tickets tickets) number task out book
-    (kept_same book.tickets)
-    (λ path row. kept_map (answered_by row number (answer.Ready row.stamp row.sum))
-    (kept_answered row number (answer.Ready row.stamp row.sum)) book.tickets)
+pub finish_kept : (number : ℕ) (task : Task) (out : Outcome) (how : Recorded) (book : Book) → AreKept book.tickets (finish number task out how book).book.tickets
+finish_kept number task out how book =
+    finished_by (λ (rows : List Row) (tickets : List Ticket). AreKept book.tickets tickets) number task out how book (record {
+      same = kept_same book.tickets;
+      stands = λ path row. kept_map (answered_by row number (answer.Ready row.stamp row.sum))
+          (kept_answered row number (answer.Ready row.stamp row.sum)) book.tickets;
+      fails = λ some given. kept_map (answered_by_any some number given) (kept_answered_any some number given) book.tickets;
+    })
 
 -- elements of lists that are mapped, filtered and added to
-contains_map : {A B : Type 0} (f : A → B) (xs : List A) (y : A) → Contains xs y → Contains (map f xs) (f y)
+pub contains_map : {A B : Type 0} (f : A → B) (xs : List A) (y : A) → Contains xs y → Contains (map f xs) (f y)
 contains_map f [] y (k, within, at) = absurd (omega arith)
 contains_map {B = B} f (x ∷ xs) y among =
     elim (contains_cases x xs y among) [
@@ -210,7 +163,7 @@ contains_filter {A = A} p (x ∷ xs) y passes among =
           [ true ↦ contains_more x (filter p xs) y rest | false ↦ rest ]
     ]
 
-contains_put : (new : Row) (rows : List Row) (y : Row) → Contains rows y → Contains (put_row new rows) y
+pub contains_put : (new : Row) (rows : List Row) (y : Row) → Contains rows y → Contains (put_row new rows) y
 contains_put new [] y (k, within, at) = absurd (omega arith)
 contains_put new (row ∷ rows) y among =
     elim (comes_before new.path row.path) as (λ b. Contains (cond b (new ∷ row ∷ rows) (row ∷ put_row new rows)) y) [
@@ -244,40 +197,63 @@ made_still path row stands rows among = (
   (elim (is_at_path path row) as (λ b. (cond b (record row { stands = true }) row).stamp ≡ row.stamp) [ true ↦ refl | false ↦ refl ]),
 )
 
--- what a write doesn't disturb is clear of its path
-clear_of : (request : Asked) (path : List (List ℕ)) (row : Row) → written request ≡ Some path → disturbs request row ≡ false →
-    is_clear_of path row ≡ true
-clear_of (asked.Write command at sum) path row is calm =
+-- what a declaration doesn't disturb is clear of its path
+clear_at : (at path : List (List ℕ)) (row : Row) → Some at ≡ Some path → overlaps_row at row ≡ false → is_clear_of path row ≡ true
+clear_at at path row is calm =
     let same : at ≡ path = cc in
     subst (λ (p : List (List ℕ)). not (overlap row.path p) ≡ true) same (ap not calm)
+
+clear_of : (request : Asked) (path : List (List ℕ)) (row : Row) → declares request ≡ Some path → disturbs request row ≡ false →
+    is_clear_of path row ≡ true
 clear_of (asked.Enter command state) path row is calm = absurd cc
+clear_of (asked.Leave command) path row is calm = absurd cc
+clear_of (asked.Write command at sum) path row is calm = clear_at at path row is calm
+clear_of (asked.Declare command at tree) path row is calm = clear_at at path row is calm
+clear_of (asked.Copy command at source) path row is calm = clear_at at path row is calm
+clear_of (asked.Matches command at sum) path row is calm = absurd cc
+clear_of (asked.Has command at) path row is calm = absurd cc
 clear_of (asked.Ensure command at) path row is calm = absurd cc
+clear_of (asked.Invalidate command at) path row is calm = absurd cc
+clear_of (asked.Clean cutoff mode) path row is calm = absurd cc
+clear_of asked.Flush path row is calm = absurd cc
 
 -- a request and the end of a job leave a row that stands
-pub serve_stands : (number moment : ℕ) (request : Asked) (book : Book) (row : Row) → Contains book.rows row → row.stands ≡ true →
-    disturbs request row ≡ false → StillStands row (serve number moment request book).book.rows
-serve_stands number moment request book row among stands calm =
-    served_by (λ (rows : List Row) (tickets : List Ticket). StillStands row rows) number moment request book
-    (row, among, stands, refl, refl, refl, refl)
-    (λ path n more. used_still path n row stands book.rows among)
-    (λ path n. used_still path n row stands book.rows among)
-    (λ path new at is. (
-      row,
-      contains_put new (filter (is_clear_of path) book.rows) row
-          (contains_filter (is_clear_of path) book.rows row (clear_of request path row is calm) among),
-      stands,
-      refl,
-      refl,
-      refl,
-      refl,
-    ))
+pub serve_stands : (number moment : ℕ) (aside : Aside) (request : Asked) (book : Book) (row : Row) → Contains book.rows row → row.stands ≡ true →
+    disturbs request row ≡ false → StillStands row (serve number moment aside request book).book.rows
+serve_stands number moment aside request book row among stands calm =
+    served_by (λ (rows : List Row) (tickets : List Ticket). StillStands row rows) number moment aside request book (record {
+      same = (row, among, stands, refl, refl, refl, refl);
+      asks = λ path n more. used_still path n row stands book.rows among;
+      uses = λ path n. used_still path n row stands book.rows among;
+      puts = λ path new at is. (
+        row,
+        contains_put new (filter (is_clear_of path) book.rows) row
+            (contains_filter (is_clear_of path) book.rows row (clear_of request path row is calm) among),
+        stands,
+        refl,
+        refl,
+        refl,
+        refl,
+      );
+      removes = λ gone left opposite disturbed. (
+        row,
+        contains_filter left book.rows row (opposite row ∙ ap not (false_by (gone row) (disturbs request row) (disturbed row) calm)) among,
+        stands,
+        refl,
+        refl,
+        refl,
+        refl,
+      );
+    })
 
-pub finish_stands : (number : ℕ) (task : Task) (out : Outcome) (book : Book) (row : Row) → Contains book.rows row → row.stands ≡ true →
-    StillStands row (finish number task out book).book.rows
-finish_stands number task out book row among stands =
-    finished_by (λ (rows : List Row) (tickets : List Ticket). StillStands row rows) number task out book
-    (row, among, stands, refl, refl, refl, refl)
-    (λ path made. made_still path row stands book.rows among)
+pub finish_stands : (number : ℕ) (task : Task) (out : Outcome) (how : Recorded) (book : Book) (row : Row) → Contains book.rows row → row.stands ≡ true →
+    StillStands row (finish number task out how book).book.rows
+finish_stands number task out how book row among stands =
+    finished_by (λ (rows : List Row) (tickets : List Ticket). StillStands row rows) number task out how book (record {
+      same = (row, among, stands, refl, refl, refl, refl);
+      stands = λ path made. made_still path row stands book.rows among;
+      fails = λ some given. (row, among, stands, refl, refl, refl, refl);
+    })
 
 -- a part of rows that are apart is apart, and what is left beside a path overlaps nothing there
 list_all-filter : (q p : Row → Bool) (rows : List Row) → list_all q rows ≡ true → list_all q (filter p rows) ≡ true
@@ -313,35 +289,54 @@ used_apart : (path : List (List ℕ)) (n : ℕ) (rows : List Row) → are_apart 
 used_apart path n rows apart = apart-map (used_row path n) (used-path path n) rows ∙ apart
 
 -- a request and the end of a job keep the rows apart
-pub serve_apart : (number moment : ℕ) (request : Asked) (book : Book) → are_apart book.rows ≡ true →
-    are_apart (serve number moment request book).book.rows ≡ true
-serve_apart number moment request book apart =
-    served_by (λ (rows : List Row) (tickets : List Ticket). are_apart rows ≡ true) number moment request book
-    apart
-    (λ path n more. used_apart path n book.rows apart)
-    (λ path n. used_apart path n book.rows apart)
-    (λ path new at is.
-    put_row-apart new (filter (is_clear_of path) book.rows) (apart-filter (is_clear_of path) book.rows apart)
-    (subst (λ (p : List (List ℕ)). list_any (overlaps_row p) (filter (is_clear_of path) book.rows) ≡ false) (sym at)
-    (clear-filter path book.rows)))
+pub serve_apart : (number moment : ℕ) (aside : Aside) (request : Asked) (book : Book) → are_apart book.rows ≡ true →
+    are_apart (serve number moment aside request book).book.rows ≡ true
+serve_apart number moment aside request book apart =
+    served_by (λ (rows : List Row) (tickets : List Ticket). are_apart rows ≡ true) number moment aside request book (record {
+      same = apart;
+      asks = λ path n more. used_apart path n book.rows apart;
+      uses = λ path n. used_apart path n book.rows apart;
+      puts = λ path new at is.
+          put_row-apart new (filter (is_clear_of path) book.rows) (apart-filter (is_clear_of path) book.rows apart)
+          (subst (λ (p : List (List ℕ)). list_any (overlaps_row p) (filter (is_clear_of path) book.rows) ≡ false) (sym at)
+          (clear-filter path book.rows));
+      removes = λ gone left opposite disturbed. apart-filter left book.rows apart;
+    })
 
-pub finish_apart : (number : ℕ) (task : Task) (out : Outcome) (book : Book) → are_apart book.rows ≡ true →
-    are_apart (finish number task out book).book.rows ≡ true
-finish_apart number task out book apart =
-    finished_by (λ (rows : List Row) (tickets : List Ticket). are_apart rows ≡ true) number task out book
-    apart
-    (λ path row. apart-map (standing_row path) (standing-path path) book.rows ∙ apart)
+pub finish_apart : (number : ℕ) (task : Task) (out : Outcome) (how : Recorded) (book : Book) → are_apart book.rows ≡ true →
+    are_apart (finish number task out how book).book.rows ≡ true
+finish_apart number task out how book apart =
+    finished_by (λ (rows : List Row) (tickets : List Ticket). are_apart rows ≡ true) number task out how book (record {
+      same = apart;
+      stands = λ path row. apart-map (standing_row path) (standing-path path) book.rows ∙ apart;
+      fails = λ some given. apart;
+    })
 
--- what is true of a book after each request and after the end of each job is true after each event
-after_event : (P : Book → Type 0) (book : Book) (earlier : List Entry) (moment : ℕ) (what : Event) → P book →
-    ((number : ℕ) (request : Asked) → what ≡ event.Asked request → P (serve number moment request book).book) →
-    ((number : ℕ) (task : Task) (out : Outcome) → P (finish number task out book).book) →
-    P (answer_event book earlier moment what).book
-after_event P book earlier moment (event.Asked request) same asks ends = asks (number_after book.first earlier) request refl
-after_event P book earlier moment (event.Begin task) same asks ends = same
-after_event P book earlier moment (event.Done job out) same asks ends =
-    elim (task_of_job book.first earlier job) as (λ o. P (end_job (number_after book.first earlier) out book o).book)
-    [ None ↦ same | Some task ↦ ends (number_after book.first earlier) task out ]
+-- what is true of a book at any moment, after each request, and after the refusal and the end of each job, is true after each event
+record Events (P : Book → Type 0) (point : Point) (moment : ℕ) (what : Event) : Type 0 where
+  same : P point.book
+  later : P (at_moment moment point.book)
+  asks : (number : ℕ) (aside : Aside) (request : Asked) → what ≡ event.Asked request → P (serve number moment aside request point.book).book
+  refuses : (number : ℕ) (begun : Task) (note : FaultNote) → P (refuse number begun note point.book).book
+  ends : (number : ℕ) (task : Task) (out : Outcome) (how : Recorded) → P (finish number task out how point.book).book
+
+after_event : (P : Book → Type 0) (point : Point) (moment : ℕ) (what : Event) (said : Reply) → Events P point moment what →
+    P (answer point moment what said).book
+after_event P point moment (event.Asked request) said events =
+    elim (may_fail request point.book point.kept && is_store_fault said) as
+    (λ b. P (cond b (record { reply = said; book = at_moment moment point.book }) (serve (next_number point) moment (aside point) request point.book)).book)
+    [ true ↦ events.later | false ↦ events.asks (next_number point) (aside point) request refl ]
+after_event P point moment (event.Begin begun) said events =
+    elim (refusal_note said) as (λ o. P (begin_with point begun o).book) [
+      | None ↦ events.same
+      | Some note ↦
+          elim (is_keeper note.device && list_any (overlaps_kept (path_of_task begun)) point.kept) as
+          (λ b. P (cond b (refuse (next_number point) begun note point.book) (record { reply = reply.Started; book = point.book })).book)
+          [ true ↦ events.refuses (next_number point) begun note | false ↦ events.same ]
+    ]
+after_event P point moment (event.Done job out) said events =
+    elim (running job point.yard) as (λ o. P (answer_done point out said o).book)
+    [ None ↦ events.same | Some ran ↦ events.ends (next_number point) ran.task out (recorded_as said) ]
 
 -- tickets that are kept twice are kept
 kept_trans : (first second third : Ticket) → IsKept first second → IsKept second third → IsKept first third
@@ -359,15 +354,20 @@ all_kept_trans (f ∷ first) (s ∷ second) [] one two = absurd two
 all_kept_trans (f ∷ first) (s ∷ second) (t ∷ third) one two =
     (kept_trans f s t one.0 two.0, all_kept_trans first second third one.1 two.1)
 
-pub history_kept : (book : Book) (earlier later : List Entry) → AreKept book.tickets (book_from book earlier later).tickets
-history_kept book earlier [] = kept_same book.tickets
-history_kept book earlier (entry ∷ later) =
-    all_kept_trans book.tickets (after book earlier entry).tickets (book_from (after book earlier entry) (earlier ++ entry ∷ []) later).tickets
-    (after_event (λ (b : Book). AreKept book.tickets b.tickets) book earlier entry.now entry.event
-    (kept_same book.tickets)
-    (λ number request is. serve_kept number entry.now request book)
-    (λ number task out. finish_kept number task out book))
-    (history_kept (after book earlier entry) (earlier ++ entry ∷ []) later)
+pub history_kept : (point : Point) (later : List Entry) → AreKept point.book.tickets (after_all point later).book.tickets
+history_kept point [] = kept_same point.book.tickets
+history_kept point (entry ∷ later) =
+    all_kept_trans point.book.tickets (after point entry).book.tickets (after_all (after point entry) later).book.tickets
+    (after_event (λ (b : Book). AreKept point.book.tickets b.tickets) point entry.now entry.event entry.reply (record {
+      same = kept_same point.book.tickets;
+      later = kept_same point.book.tickets;
+      asks = λ number aside request is. serve_kept number entry.now aside request point.book;
+      refuses = λ number begun note.
+          kept_map (answered_by_any (rows_of_task begun point.book.rows) number (answer.Fault note))
+          (kept_answered_any (rows_of_task begun point.book.rows) number (answer.Fault note)) point.book.tickets;
+      ends = λ number task out how. finish_kept number task out how point.book;
+    }))
+    (history_kept (after point entry) later)
 
 -- a ticket with an answer, among tickets that are kept
 kept_get : (tickets others : List Ticket) (k : ℕ) (ticket : Ticket) → AreKept tickets others → slice_get tickets k ≡ Some ticket →
@@ -379,25 +379,40 @@ kept_get (t ∷ tickets) (u ∷ others) zero ticket kept is shut =
     ap (λ (x : Ticket). Some x) (kept.0.3 (ap is_open same ∙ shut) ∙ same)
 kept_get (t ∷ tickets) (u ∷ others) (suc k) ticket kept is shut = kept_get tickets others k ticket kept.1 is shut
 
-pub history_answer : (book : Book) (earlier later : List Entry) (k : ℕ) (ticket : Ticket) →
-    slice_get book.tickets k ≡ Some ticket → is_open ticket ≡ false → slice_get (book_from book earlier later).tickets k ≡ Some ticket
-history_answer book earlier later k ticket is shut =
-    kept_get book.tickets (book_from book earlier later).tickets k ticket (history_kept book earlier later) is shut
+pub history_answer : (point : Point) (later : List Entry) (k : ℕ) (ticket : Ticket) →
+    slice_get point.book.tickets k ≡ Some ticket → is_open ticket ≡ false → slice_get (after_all point later).book.tickets k ≡ Some ticket
+history_answer point later k ticket is shut =
+    kept_get point.book.tickets (after_all point later).book.tickets k ticket (history_kept point later) is shut
 
 -- a history keeps the rows apart
-pub history_apart : (book : Book) (earlier later : List Entry) → are_apart book.rows ≡ true → are_apart (book_from book earlier later).rows ≡ true
-history_apart book earlier [] apart = apart
-history_apart book earlier (entry ∷ later) apart =
-    history_apart (after book earlier entry) (earlier ++ entry ∷ []) later
-    (after_event (λ (b : Book). are_apart b.rows ≡ true) book earlier entry.now entry.event apart
-    (λ number request is. serve_apart number entry.now request book apart)
-    (λ number task out. finish_apart number task out book apart))
+pub history_apart : (point : Point) (later : List Entry) → are_apart point.book.rows ≡ true → are_apart (after_all point later).book.rows ≡ true
+history_apart point [] apart = apart
+history_apart point (entry ∷ later) apart =
+    history_apart (after point entry) later
+    (after_event (λ (b : Book). are_apart b.rows ≡ true) point entry.now entry.event entry.reply (record {
+      same = apart;
+      later = apart;
+      asks = λ number aside request is. serve_apart number entry.now aside request point.book apart;
+      refuses = λ number begun note. apart;
+      ends = λ number task out how. finish_apart number task out how point.book apart;
+    }))
 
 -- a row at the same path is disturbed by the same entries
+same_request : (request : Asked) (row next : Row) → next.path ≡ row.path → disturbs request next ≡ disturbs request row
+same_request (asked.Enter command state) row next at = refl
+same_request (asked.Leave command) row next at = refl
+same_request (asked.Write command path sum) row next at = ap (λ (p : List (List ℕ)). overlap p path) at
+same_request (asked.Declare command path tree) row next at = ap (λ (p : List (List ℕ)). overlap p path) at
+same_request (asked.Copy command path source) row next at = ap (λ (p : List (List ℕ)). overlap p path) at
+same_request (asked.Matches command path sum) row next at = refl
+same_request (asked.Has command path) row next at = refl
+same_request (asked.Ensure command path) row next at = refl
+same_request (asked.Invalidate command path) row next at = ap (λ (p : List (List ℕ)). overlap p path) at
+same_request (asked.Clean cutoff mode) row next at = refl
+same_request asked.Flush row next at = refl
+
 same_disturbs : (what : Event) (row next : Row) → next.path ≡ row.path → disturbs_by what next ≡ disturbs_by what row
-same_disturbs (event.Asked (asked.Write command path sum)) row next at = ap (λ (p : List (List ℕ)). overlap p path) at
-same_disturbs (event.Asked (asked.Enter command state)) row next at = refl
-same_disturbs (event.Asked (asked.Ensure command path)) row next at = refl
+same_disturbs (event.Asked request) row next at = same_request request row next at
 same_disturbs (event.Begin task) row next at = refl
 same_disturbs (event.Done job out) row next at = refl
 
@@ -407,19 +422,22 @@ none_disturbs row next at [] = refl
 none_disturbs row next at (entry ∷ entries) =
     ap₂ (λ (s t : Bool). s || t) (same_disturbs entry.event row next at) (none_disturbs row next at entries)
 
-pub history_stands : (book : Book) (earlier later : List Entry) (row : Row) → Contains book.rows row → row.stands ≡ true →
-    list_any (is_disturbed row) later ≡ false → StillStands row (book_from book earlier later).rows
-history_stands book earlier [] row among stands calm = (row, among, stands, refl, refl, refl, refl)
-history_stands book earlier (entry ∷ later) row among stands calm =
+pub history_stands : (point : Point) (later : List Entry) (row : Row) → Contains point.book.rows row → row.stands ≡ true →
+    list_any (is_disturbed row) later ≡ false → StillStands row (after_all point later).book.rows
+history_stands point [] row among stands calm = (row, among, stands, refl, refl, refl, refl)
+history_stands point (entry ∷ later) row among stands calm =
     let parts = or_false_parts (is_disturbed row entry) (list_any (is_disturbed row) later) calm in
-    let here : StillStands row (after book earlier entry).rows =
-    after_event (λ (b : Book). StillStands row b.rows) book earlier entry.now entry.event
-    (row, among, stands, refl, refl, refl, refl)
-    (λ number request is.
-    serve_stands number entry.now request book row among stands
-    (subst (λ (what : Event). disturbs_by what row ≡ false) is parts.0))
-    (λ number task out. finish_stands number task out book row among stands) in
-    let more = history_stands (after book earlier entry) (earlier ++ entry ∷ []) later here.0 here.1 here.2
+    let here : StillStands row (after point entry).book.rows =
+    after_event (λ (b : Book). StillStands row b.rows) point entry.now entry.event entry.reply (record {
+      same = (row, among, stands, refl, refl, refl, refl);
+      later = (row, among, stands, refl, refl, refl, refl);
+      asks = λ number aside request is.
+          serve_stands number entry.now aside request point.book row among stands
+          (subst (λ (what : Event). disturbs_by what row ≡ false) is parts.0);
+      refuses = λ number begun note. (row, among, stands, refl, refl, refl, refl);
+      ends = λ number task out how. finish_stands number task out how point.book row among stands;
+    }) in
+    let more = history_stands (after point entry) later here.0 here.1 here.2
     (none_disturbs row here.0 here.3 later ∙ parts.1) in
     (more.0, more.1, more.2, more.3 ∙ here.3, more.4 ∙ here.4, more.5 ∙ here.5, more.6 ∙ here.6)
 
@@ -435,19 +453,21 @@ not_both o ticket other is lies was shut =
     let same : ticket ≡ other = cc in both_ways (is_open ticket) (ap is_open same ∙ shut) lies
 
 -- a request answers truly
-pub serve_true : (number moment : ℕ) (request : Asked) (book : Book) (k : ℕ) (ticket other : Ticket) →
+pub serve_true : (number moment : ℕ) (aside : Aside) (request : Asked) (book : Book) (k : ℕ) (ticket other : Ticket) →
     slice_get book.tickets k ≡ Some ticket → is_open ticket ≡ true →
-    slice_get (serve number moment request book).book.tickets k ≡ Some other → is_open other ≡ false →
-    IsLeftOut number (serve number moment request book).book.rows ticket other
-serve_true number moment request book k ticket other is lies =
+    slice_get (serve number moment aside request book).book.tickets k ≡ Some other → is_open other ≡ false →
+    IsLeftOut number (serve number moment aside request book).book.rows ticket other
+serve_true number moment aside request book k ticket other is lies =
     served_by (λ (rows : List Row) (tickets : List Ticket). slice_get tickets k ≡ Some other → is_open other ≡ false → IsLeftOut number rows ticket other)
-    number moment request book
-    (λ was shut. absurd (not_both (slice_get book.tickets k) ticket other is lies was shut))
-    (λ path n more was shut.
-    absurd (not_both (slice_get (book.tickets ++ more) k) ticket other (get-append book.tickets more k ticket is) lies was shut))
-    (λ path n was shut. absurd (not_both (slice_get book.tickets k) ticket other is lies was shut))
-    (λ path new at by was shut.
-    lost (filter (overlaps_row path) book.rows) (put_row new (filter (is_clear_of path) book.rows)) was shut)
+    number moment aside request book (record {
+      same = λ was shut. absurd (not_both (slice_get book.tickets k) ticket other is lies was shut);
+      asks = λ path n more was shut.
+          absurd (not_both (slice_get (book.tickets ++ more) k) ticket other (get-append book.tickets more k ticket is) lies was shut);
+      uses = λ path n was shut. absurd (not_both (slice_get book.tickets k) ticket other is lies was shut);
+      puts = λ path new at by was shut.
+          lost (filter (overlaps_row path) book.rows) (put_row new (filter (is_clear_of path) book.rows)) was shut;
+      removes = λ gone left opposite disturbed was shut. lost (filter gone book.rows) (filter left book.rows) was shut;
+    })
   where
     lost : (removed left : List Row) → slice_get (map (left_ticket number removed left) book.tickets) k ≡ Some other → is_open other ≡ false →
         IsLeftOut number left ticket other
@@ -505,14 +525,14 @@ made_true number path stamp book k ticket other row found at under is lies was s
               (and_true_parts (is_at_path path row) (row.stamp == stamp) (found_passes (is_declared path stamp) book.rows row found)).0)
         ] refl
 
-pub finish_true : (number : ℕ) (path : List (List ℕ)) (stamp : ℕ) (out : Outcome) (book : Book) (k : ℕ) (ticket other : Ticket) →
+pub finish_true : (number : ℕ) (path : List (List ℕ)) (stamp : ℕ) (how : Recorded) (book : Book) (k : ℕ) (ticket other : Ticket) →
     slice_get book.tickets k ≡ Some ticket → is_open ticket ≡ true →
-    slice_get (finish number (task.Make path stamp) out book).book.tickets k ≡ Some other → is_open other ≡ false →
-    IsAnswered number path stamp (finish number (task.Make path stamp) out book).book.rows ticket other
-finish_true number path stamp outcome.Made book k ticket other is lies was shut =
+    slice_get (finish number (task.Make path stamp) outcome.Made how book).book.tickets k ≡ Some other → is_open other ≡ false →
+    IsAnswered number path stamp (finish number (task.Make path stamp) outcome.Made how book).book.rows ticket other
+finish_true number path stamp how book k ticket other is lies was shut =
     elim (find (is_declared path stamp) book.rows) as
-    (λ o. find (is_declared path stamp) book.rows ≡ o → slice_get (end_make number path outcome.Made book o).book.tickets k ≡ Some other →
-    IsAnswered number path stamp (end_make number path outcome.Made book o).book.rows ticket other) [
+    (λ o. find (is_declared path stamp) book.rows ≡ o → slice_get (end_make number path outcome.Made how book o).book.tickets k ≡ Some other →
+    IsAnswered number path stamp (end_make number path outcome.Made how book o).book.rows ticket other) [
       | None ↦ λ found now. absurd (not_both (slice_get book.tickets k) ticket other is lies now shut)
       | Some row ↦ λ found now.
           let parts = and_true_parts (is_at_path path row) (row.stamp == stamp) (found_passes (is_declared path stamp) book.rows row found) in
@@ -524,20 +544,20 @@ finish_true number path stamp outcome.Made book k ticket other is lies was shut 
     number_is n m is = grind (arith, nat_tests, is)
 
 -- the ticket that the first make is for waits for its row
-waits_first : (rows : List Row) (ticket : Ticket) (path : List (List ℕ)) (stamp : ℕ) (row : Row) → are_apart rows ≡ true →
-    find (is_declared path stamp) rows ≡ Some row → task_of rows ticket ≡ Some (task.Make path stamp) →
+waits_first : (yard : Yard) (rows : List Row) (ticket : Ticket) (path : List (List ℕ)) (stamp : ℕ) (row : Row) → are_apart rows ≡ true →
+    find (is_declared path stamp) rows ≡ Some row → task_of yard rows ticket ≡ Some (task.Make path stamp) →
     (is_open ticket ≡ true) × (waits_for row ticket ≡ true)
-waits_first rows ticket path stamp row apart found is =
+waits_first yard rows ticket path stamp row apart found is =
     elim (is_open ticket) as
-    (λ b. is_open ticket ≡ b → cond b (option_and_then make_of (find (covers ticket.asked) rows)) None ≡ Some (task.Make path stamp) →
+    (λ b. is_open ticket ≡ b → cond b (option_and_then (make_of yard rows) (find (covers ticket.asked) rows)) None ≡ Some (task.Make path stamp) →
     (is_open ticket ≡ true) × (waits_for row ticket ≡ true)) [
       | true ↦ λ lies of.
           elim (find (covers ticket.asked) rows) as
-          (λ o. find (covers ticket.asked) rows ≡ o → option_and_then make_of o ≡ Some (task.Make path stamp) →
+          (λ o. find (covers ticket.asked) rows ≡ o → option_and_then (make_of yard rows) o ≡ Some (task.Make path stamp) →
           (is_open ticket ≡ true) × (waits_for row ticket ≡ true)) [
             | None ↦ λ none made. absurd cc
             | Some one ↦ λ over made.
-                let parts = make_of_parts one path stamp made in
+                let parts = make_of_parts yard rows one path stamp made in
                 let its : find (is_declared path stamp) rows ≡ Some one =
                 ap₂ (λ (p : List (List ℕ)) (s : ℕ). find (is_declared p s) rows) (sym parts.0) (sym parts.1)
                 ∙ apart_declared rows one apart (found_contains (covers ticket.asked) rows one over) in
@@ -578,22 +598,22 @@ answered_all_le row number given (ticket ∷ tickets) =
     (count_by is_open (map (answered_by row number given) tickets)) (count_by is_open tickets)
     (answered_le row number given ticket) (answered_all_le row number given tickets))
 
-first_answered : (rows : List Row) (path : List (List ℕ)) (stamp : ℕ) (row : Row) (number : ℕ) (given : Answer) → are_apart rows ≡ true →
-    find (is_declared path stamp) rows ≡ Some row → (tickets : List Ticket) → first_task rows tickets ≡ Some (task.Make path stamp) →
+first_answered : (yard : Yard) (rows : List Row) (path : List (List ℕ)) (stamp : ℕ) (row : Row) (number : ℕ) (given : Answer) → are_apart rows ≡ true →
+    find (is_declared path stamp) rows ≡ Some row → (tickets : List Ticket) → first_make yard rows tickets ≡ Some (task.Make path stamp) →
     count_by is_open (map (answered_by row number given) tickets) < count_by is_open tickets
-first_answered rows path stamp row number given apart found [] is = absurd cc
-first_answered rows path stamp row number given apart found (ticket ∷ tickets) is =
+first_answered yard rows path stamp row number given apart found [] is = absurd cc
+first_answered yard rows path stamp row number given apart found (ticket ∷ tickets) is =
     rw (count-cons (answered_by row number given ticket) (map (answered_by row number given) tickets), count-cons ticket tickets)
-    (elim (task_of rows ticket) as
-    (λ o. task_of rows ticket ≡ o → option_or o (first_task rows tickets) ≡ Some (task.Make path stamp) →
+    (elim (task_of yard rows ticket) as
+    (λ o. task_of yard rows ticket ≡ o → option_or o (first_make yard rows tickets) ≡ Some (task.Make path stamp) →
     cond (is_open (answered_by row number given ticket)) 1 0 + count_by is_open (map (answered_by row number given) tickets)
     < cond (is_open ticket) 1 0 + count_by is_open tickets) [
       | None ↦ λ here more.
           one_lt (cond (is_open (answered_by row number given ticket)) 1 0) (cond (is_open ticket) 1 0)
           (count_by is_open (map (answered_by row number given) tickets)) (count_by is_open tickets)
-          (answered_le row number given ticket) (first_answered rows path stamp row number given apart found tickets more)
+          (answered_le row number given ticket) (first_answered yard rows path stamp row number given apart found tickets more)
       | Some one ↦ λ here more.
-          let waits = waits_first rows ticket path stamp row apart found (here ∙ more) in
+          let waits = waits_first yard rows ticket path stamp row apart found (here ∙ more) in
           let lt : cond (is_open (answered_by row number given ticket)) 1 0 < cond (is_open ticket) 1 0 =
           subst (λ (b : Bool). cond (is_open (cond b (with_answer number given ticket) ticket)) 1 0 < cond (is_open ticket) 1 0) (sym waits.1)
           (subst (λ (b : Bool). 0 < cond b 1 0) (sym waits.0) (omega arith)) in
@@ -602,16 +622,16 @@ first_answered rows path stamp row number given apart found (ticket ∷ tickets)
           lt (answered_all_le row number given tickets)
     ] refl is)
 
-pub finish_first : (number : ℕ) (path : List (List ℕ)) (stamp : ℕ) (book : Book) → are_apart book.rows ≡ true →
-    first_task book.rows book.tickets ≡ Some (task.Make path stamp) →
-    count_by is_open (finish number (task.Make path stamp) outcome.Made book).book.tickets < count_by is_open book.tickets
-finish_first number path stamp book apart is =
-    let made = first_task_found book.rows book.tickets path stamp apart is in
-    let same : (finish number (task.Make path stamp) outcome.Made book).book.tickets
+pub finish_first : (yard : Yard) (number : ℕ) (path : List (List ℕ)) (stamp : ℕ) (how : Recorded) (book : Book) → are_apart book.rows ≡ true →
+    first_make yard book.rows book.tickets ≡ Some (task.Make path stamp) →
+    count_by is_open (finish number (task.Make path stamp) outcome.Made how book).book.tickets < count_by is_open book.tickets
+finish_first yard number path stamp how book apart is =
+    let made = first_make_found yard book.rows book.tickets path stamp apart is in
+    let same : (finish number (task.Make path stamp) outcome.Made how book).book.tickets
     ≡ map (answered_by made.0 number (answer.Ready made.0.stamp made.0.sum)) book.tickets =
-    ap (λ (o : Option Row). (end_make number path outcome.Made book o).book.tickets) made.2 in
+    ap (λ (o : Option Row). (end_make number path outcome.Made how book o).book.tickets) made.2 in
     subst (λ (ts : List Ticket). count_by is_open ts < count_by is_open book.tickets) (sym same)
-    (first_answered book.rows path stamp made.0 number (answer.Ready made.0.stamp made.0.sum) apart made.2 book.tickets is)
+    (first_answered yard book.rows path stamp made.0 number (answer.Ready made.0.stamp made.0.sum) apart made.2 book.tickets is)
 
 -- a row that is put among others is among them
 contains_new : (new : Row) (rows : List Row) → Contains (put_row new rows) new
@@ -620,7 +640,7 @@ contains_new new (row ∷ rows) =
     elim (comes_before new.path row.path) as (λ b. Contains (cond b (new ∷ row ∷ rows) (row ∷ put_row new rows)) new)
     [ true ↦ contains_first new (row ∷ rows) | false ↦ contains_more row (put_row new rows) new (contains_new new rows) ]
 
-used-stamp : (path : List (List ℕ)) (n : ℕ) (row : Row) → (used_row path n row).stamp ≡ row.stamp
+pub used-stamp : (path : List (List ℕ)) (n : ℕ) (row : Row) → (used_row path n row).stamp ≡ row.stamp
 used-stamp path n row =
     elim (is_at_path path row) as (λ b. (cond b (record row { last = n }) row).stamp ≡ row.stamp) [ true ↦ refl | false ↦ refl ]
 
@@ -642,20 +662,20 @@ same_file digest exec =
 
 -- a write by a live command is declared
 pub write_declared : (number command : ℕ) (path : List (List ℕ)) (sum : Sum) (book : Book) → is_live command book ≡ true →
-    HasDeclared (write number command path sum book).book.rows path (file_tree sum.digest (is_exec sum.kind)) (write number command path sum book).reply
+    HasDeclared (write number command path sum book).book.rows path (written_tree sum) (write number command path sum book).reply
 write_declared number command path sum book live =
-    let tree : List Flat = file_tree sum.digest (is_exec sum.kind) in
+    let tree : List Flat = written_tree sum in
     subst (λ (b : Bool).
-    HasDeclared (cond b (declare number command path tree sum book) (record { reply = reply.NotLive; book = book })).book.rows path tree
-    (cond b (declare number command path tree sum book) (record { reply = reply.NotLive; book = book })).reply) (sym live)
+    HasDeclared (cond b (declare number command path tree book) (record { reply = reply.NotLive; book = book })).book.rows path tree
+    (cond b (declare number command path tree book) (record { reply = reply.NotLive; book = book })).reply) (sym live)
     (elim (find (is_equal_row path tree) book.rows) as
     (λ o. find (is_equal_row path tree) book.rows ≡ o →
-    HasDeclared (declare_row number command path tree sum book o).book.rows path tree (declare_row number command path tree sum book o).reply) [
+    HasDeclared (declare_row number command path tree book o).book.rows path tree (declare_row number command path tree book o).reply) [
       | None ↦ λ found. (
-        new_row number book.now path tree sum,
-        contains_new (new_row number book.now path tree sum) (filter (is_clear_of path) book.rows),
+        new_row number book.now path tree,
+        contains_new (new_row number book.now path tree) (filter (is_clear_of path) book.rows),
         refl,
-        same_file sum.digest (is_exec sum.kind),
+        same_file sum.digest false,
         inl refl,
       )
       | Some row ↦ λ found.
@@ -693,9 +713,54 @@ queued command state book = record {
   book = record book { waiting = book.waiting ++ record { command = command; state = state } ∷ [] };
 }
 
+-- who goes leaves the gate sound
+filter_le : (p : ℕ → Bool) (xs : List ℕ) → length (filter p xs) ≤ length xs
+filter_le p [] = omega arith
+filter_le p (x ∷ xs) =
+    let more : length (filter p xs) ≤ length xs = filter_le p xs in
+    elim (p x) as (λ b. length (cond b (x ∷ filter p xs) (filter p xs)) ≤ suc (length xs)) [ true ↦ omega (arith, more) | false ↦ omega (arith, more) ]
+
+nobody_else : (p : ℕ → Bool) (live : List ℕ) (state : Option ℕ) → is_none state ≡ is_nobody live →
+    is_none (state_of (filter p live) state) ≡ is_nobody (filter p live)
+nobody_else p live state fits =
+    elim (filter p live) as (λ left. filter p live ≡ left → is_none (state_of left state) ≡ is_nobody left) [
+      | [] ↦ λ is. refl
+      | command ∷ left ↦ λ is. fits ∙ was_somebody live command left is
+    ] refl
+  where
+    was_somebody : (all : List ℕ) (command : ℕ) (left : List ℕ) → filter p all ≡ command ∷ left → is_nobody all ≡ false
+    was_somebody [] command left is = absurd cc
+    was_somebody (other ∷ all) command left is = refl
+
+departed_gated : (command : ℕ) (book : Book) → IsGated book → IsGated (departed command book)
+departed_gated command book gated =
+    let fewer : length (filter (is_other command) book.live) ≤ length book.live = filter_le (is_other command) book.live in
+    let few : length book.live ≤ 64 = gated.0 in
+    (omega (arith, fewer, few), nobody_else (is_other command) book.live book.state gated.1)
+
+-- and so do those who are admitted
+admit_gated : (waiters : List Waiter) (book : Book) → IsGated book → IsGated (admit waiters book).book
+admit_gated [] book gated = gated
+admit_gated (waiter ∷ waiters) book gated =
+    elim (admits_front waiter book) as
+    (λ b. admits_front waiter book ≡ b →
+    IsGated (cond {A = Admitted} b (record { count = (admit waiters (admitted waiter book)).count + 1; book = (admit waiters (admitted waiter book)).book })
+    (record { count = 0; book = record book { waiting = waiter ∷ waiters } })).book) [
+      | true ↦ λ may. admit_gated waiters (admitted waiter book) (
+        one_more book.live waiter.command (and_true_parts (nat_lt (length book.live) 64) (is_state waiter.state book.state) may).0,
+        somebody book.live waiter.command,
+      )
+      | false ↦ λ may. gated
+    ] refl
+
+declare_gated : (number command : ℕ) (path : List (List ℕ)) (tree : List Flat) (book : Book) → IsGated book → IsGated (declare number command path tree book).book
+declare_gated number command path tree book gated =
+    elim (find (is_equal_row path tree) book.rows) as (λ o. IsGated (declare_row number command path tree book o).book)
+    [ None ↦ gated | Some row ↦ gated ]
+
 -- a request, the end of a job and a history keep the gate sound
-pub serve_gated : (number moment : ℕ) (request : Asked) (book : Book) → IsGated book → IsGated (serve number moment request book).book
-serve_gated number moment (asked.Enter command state) book gated =
+pub serve_gated : (number moment : ℕ) (aside : Aside) (request : Asked) (book : Book) → IsGated book → IsGated (serve number moment aside request book).book
+serve_gated number moment aside (asked.Enter command state) book gated =
     either_book IsGated (is_live command (at_moment moment book) || is_waiting command (at_moment moment book)) _ _ gated
     (elim (admits state (at_moment moment book)) as
     (λ b. admits state (at_moment moment book) ≡ b →
@@ -708,27 +773,71 @@ serve_gated number moment (asked.Enter command state) book gated =
       )
       | false ↦ λ waits. gated
     ] refl)
-serve_gated number moment (asked.Write command path sum) book gated =
-    either_book IsGated (is_live command (at_moment moment book)) _ _
-    (elim (find (is_equal_row path (file_tree sum.digest (is_exec sum.kind))) book.rows) as
-    (λ o. IsGated (declare_row number command path (file_tree sum.digest (is_exec sum.kind)) sum (at_moment moment book) o).book)
-    [ None ↦ gated | Some row ↦ gated ])
+serve_gated number moment aside (asked.Leave command) book gated =
+    either_book IsGated (is_live command (at_moment moment book) || is_waiting command (at_moment moment book)) _ _
+    (either_book IsGated (count_by (is_open_of command) book.tickets == 0) _ _
+    (admit_gated (departed command (at_moment moment book)).waiting (departed command (at_moment moment book))
+    (departed_gated command (at_moment moment book) gated)) gated)
     gated
-serve_gated number moment (asked.Ensure command path) book gated =
+serve_gated number moment aside (asked.Write command path sum) book gated =
+    either_book IsGated (is_live command (at_moment moment book)) _ _
+    (declare_gated number command path (written_tree sum) (at_moment moment book) gated) gated
+serve_gated number moment aside (asked.Declare command path tree) book gated =
+    either_book IsGated (is_live command (at_moment moment book)) _ _
+    (declare_gated number command path tree (at_moment moment book) gated) gated
+serve_gated number moment aside (asked.Copy command path source) book gated =
+    either_book IsGated (is_live command (at_moment moment book)) _ _
+    (elim (declared_at book.rows source) as (λ o. IsGated (copy_tree number command path (at_moment moment book) o).book) [
+      | None ↦ gated
+      | Some tree ↦ either_book IsGated (list_all (stands_at_path path) tree) _ _
+          (declare_gated number command path tree (at_moment moment book) gated) gated
+    ]) gated
+serve_gated number moment aside (asked.Matches command path sum) book gated =
+    either_book IsGated (is_live command (at_moment moment book)) _ _
+    (elim (find (is_at_path path) book.rows) as (λ o. IsGated (match_row command path sum (at_moment moment book) o).book)
+    [ None ↦ gated | Some row ↦ either_book IsGated (same_sum row.sum sum) _ _ gated gated ]) gated
+serve_gated number moment aside (asked.Has command path) book gated =
+    either_book IsGated (is_live command (at_moment moment book)) _ _ gated gated
+serve_gated number moment aside (asked.Ensure command path) book gated =
     either_book IsGated (is_live command (at_moment moment book)) _ _
     (elim (cover book.rows path) as (λ o. IsGated (ensure_row number command path (at_moment moment book) o).book)
     [ None ↦ gated | Some row ↦ either_book IsGated row.stands _ _ gated gated ])
     gated
+serve_gated number moment aside (asked.Invalidate command path) book gated =
+    either_book IsGated (is_live command (at_moment moment book)) _ _ gated gated
+serve_gated number moment aside (asked.Clean cutoff mode.Real) book gated = gated
+serve_gated number moment aside (asked.Clean cutoff mode.Dry) book gated = gated
+serve_gated number moment aside (asked.Clean cutoff mode.All) book gated = gated
+serve_gated number moment aside asked.Flush book gated = gated
 
-finish_gated : (number : ℕ) (task : Task) (out : Outcome) (book : Book) → IsGated book → IsGated (finish number task out book).book
-finish_gated number (task.Make path stamp) outcome.Made book gated =
-    elim (find (is_declared path stamp) book.rows) as (λ o. IsGated (end_make number path outcome.Made book o).book)
-    [ None ↦ gated | Some row ↦ gated ]
+make_gated : (number : ℕ) (path : List (List ℕ)) (out : Outcome) (how : Recorded) (book : Book) → IsGated book → (o : Option Row) →
+    IsGated (end_make number path out how book o).book
+make_gated number path out how book gated None = gated
+make_gated number path outcome.Made how book gated (Some row) = gated
+make_gated number path outcome.Wiped how book gated (Some row) = gated
+make_gated number path (outcome.Missing digest) how book gated (Some row) = gated
+make_gated number path (outcome.Corrupt wanted found) how book gated (Some row) = gated
+make_gated number path (outcome.Fault note) how book gated (Some row) = gated
+make_gated number path outcome.NoMemory how book gated (Some row) = gated
 
-pub history_gated : (book : Book) (earlier later : List Entry) → IsGated book → IsGated (book_from book earlier later)
-history_gated book earlier [] gated = gated
-history_gated book earlier (entry ∷ later) gated =
-    history_gated (after book earlier entry) (earlier ++ entry ∷ []) later
-    (after_event IsGated book earlier entry.now entry.event gated
-    (λ number request is. serve_gated number entry.now request book gated)
-    (λ number task out. finish_gated number task out book gated))
+finish_gated : (number : ℕ) (task : Task) (out : Outcome) (how : Recorded) (book : Book) → IsGated book → IsGated (finish number task out how book).book
+finish_gated number (task.Make path stamp) out how book gated =
+    make_gated number path out how book gated (find (is_declared path stamp) book.rows)
+finish_gated number (task.Wipe path) outcome.Made how book gated = gated
+finish_gated number (task.Wipe path) outcome.Wiped how book gated = gated
+finish_gated number (task.Wipe path) (outcome.Missing digest) how book gated = gated
+finish_gated number (task.Wipe path) (outcome.Corrupt wanted found) how book gated = gated
+finish_gated number (task.Wipe path) (outcome.Fault note) how book gated = gated
+finish_gated number (task.Wipe path) outcome.NoMemory how book gated = gated
+
+pub history_gated : (point : Point) (later : List Entry) → IsGated point.book → IsGated (after_all point later).book
+history_gated point [] gated = gated
+history_gated point (entry ∷ later) gated =
+    history_gated (after point entry) later
+    (after_event IsGated point entry.now entry.event entry.reply (record {
+      same = gated;
+      later = gated;
+      asks = λ number aside request is. serve_gated number entry.now aside request point.book gated;
+      refuses = λ number begun note. gated;
+      ends = λ number task out how. finish_gated number task out how point.book gated;
+    }))

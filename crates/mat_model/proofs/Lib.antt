@@ -4,4 +4,6 @@ pub mod Apart
 pub mod Stood
 pub mod Makes
 pub mod LegalLemmas
+pub mod Serving
 pub mod LawLemmas
+pub mod Idle

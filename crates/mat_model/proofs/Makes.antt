@@ -1,7 +1,7 @@
 -- The row that the first make is for: it is in the book, at the task's path and under its stamp, and it doesn't stand yet.
-use Rattle.std.proofs.Common.{◌≡◌, ℕ, ◌==◌, Bool, true, false, List, [], ◌∷◌, Some, None, cond, inl, inr, refl, sym, ap, ap₂, subst, ◌∙◌, Contains, find, arith}
-use Rattle.std.specs.List.{list_all}
-use Rattle.std.specs.Option.{option_and_then, option_or}
+use Rattle.std.proofs.Common.{◌≡◌, ℕ, ◌==◌, Bool, true, false, ◌||◌, List, [], ◌∷◌, Some, None, cond, inl, inr, refl, sym, ap, ap₂, subst, ◌∙◌, Contains, find, arith}
+use Rattle.std.specs.List.{list_all, list_any}
+use Rattle.std.specs.Option.{option_and_then, option_map_or, option_or}
 use Rattle.std.proofs.lemmas.Bool.{both_ways, and_from}
 use Rattle.std.proofs.lemmas.Bool.Decides.{nat_tests}
 use Rattle.mat_path.specs.Names.{overlap}
@@ -9,10 +9,11 @@ use Rattle.mat_path.proofs.PathLemmas.{same_names-eq, same_names-refl}
 use Rattle.mat_model.specs.declared.book.Row.{Row}
 use Rattle.mat_model.specs.declared.book.Ticket.{Ticket}
 use Rattle.mat_model.specs.declared.entries.Task.TheVariants as task
-use Rattle.mat_model.specs.Requests.{is_open}
-use Rattle.mat_model.specs.Rows.{covers, is_at_path, is_apart, are_apart}
-use Rattle.mat_model.specs.Work.{is_declared, make_of, task_of, first_task}
-use Rattle.mat_model.proofs.Tests.{and_true_parts}
+use Rattle.mat_model.specs.Tickets.{is_open}
+use Rattle.mat_model.specs.Rows.{are_apart, covers, is_apart, is_at_path}
+use Rattle.mat_model.specs.Work.{is_declared}
+use Rattle.mat_model.specs.Yard.{Yard, first_make, is_debris_above, is_kept_back, is_lent, is_lent_part, lent_by, make_of, task_of, way_of}
+use Rattle.mat_model.proofs.Tests.{and_true_parts, or_false_parts}
 use Rattle.mat_model.proofs.Apart.{apart_parts, overlap-refl}
 use Rattle.mat_model.proofs.Stood.{contains_first, contains_more, contains_cases, contains_all}
 
@@ -29,47 +30,55 @@ found_contains {A = A} q (x ∷ xs) y found =
 abbrev pub HasMake : List Row → List (List ℕ) → ℕ → Type 0
 HasMake rows path stamp = (row : Row) × Contains rows row × (row.path ≡ path) × (row.stamp ≡ stamp) × (row.stands ≡ false)
 
+-- a row that is not kept back doesn't stand
+lies_free : (yard : Yard) (rows : List Row) (row : Row) → is_kept_back yard rows row ≡ false → row.stands ≡ false
+lies_free yard rows row free =
+    let sourced = or_false_parts (row.stands || is_lent row.path yard.jobs || list_any (is_debris_above row.path) yard.debris)
+    (option_map_or (is_lent_part yard.jobs) (lent_by (way_of row.stamp yard.ways) rows) false) free in
+    let clear = or_false_parts (row.stands || is_lent row.path yard.jobs) (list_any (is_debris_above row.path) yard.debris) sourced.0 in
+    (or_false_parts row.stands (is_lent row.path yard.jobs) clear.0).0
+
 -- a row whose make is a task is at its path and under its stamp, and doesn't stand
-pub make_of_parts : (row : Row) (path : List (List ℕ)) (stamp : ℕ) → make_of row ≡ Some (task.Make path stamp) →
+pub make_of_parts : (yard : Yard) (rows : List Row) (row : Row) (path : List (List ℕ)) (stamp : ℕ) → make_of yard rows row ≡ Some (task.Make path stamp) →
     (row.path ≡ path) × (row.stamp ≡ stamp) × (row.stands ≡ false)
-make_of_parts row path stamp is =
-    elim row.stands as
-    (λ s. row.stands ≡ s → cond s None (Some (task.Make row.path row.stamp)) ≡ Some (task.Make path stamp) →
+make_of_parts yard rows row path stamp is =
+    elim (is_kept_back yard rows row) as
+    (λ b. is_kept_back yard rows row ≡ b → cond b None (Some (task.Make row.path row.stamp)) ≡ Some (task.Make path stamp) →
     (row.path ≡ path) × (row.stamp ≡ stamp) × (row.stands ≡ false)) [
-      | true ↦ λ stands made. absurd cc
-      | false ↦ λ lies made.
+      | true ↦ λ back made. absurd cc
+      | false ↦ λ free made.
           let place : row.path ≡ path = cc in
           let number : row.stamp ≡ stamp = cc in
-          (place, number, lies)
+          (place, number, lies_free yard rows row free)
     ] refl is
 
 -- the row whose make a ticket waits for
-pub task_of_row : (rows : List Row) (ticket : Ticket) (path : List (List ℕ)) (stamp : ℕ) → task_of rows ticket ≡ Some (task.Make path stamp) →
+pub task_of_row : (yard : Yard) (rows : List Row) (ticket : Ticket) (path : List (List ℕ)) (stamp : ℕ) → task_of yard rows ticket ≡ Some (task.Make path stamp) →
     HasMake rows path stamp
-task_of_row rows ticket path stamp is =
+task_of_row yard rows ticket path stamp is =
     elim (is_open ticket) as
-    (λ b. cond b (option_and_then make_of (find (covers ticket.asked) rows)) None ≡ Some (task.Make path stamp) → HasMake rows path stamp) [
+    (λ b. cond b (option_and_then (make_of yard rows) (find (covers ticket.asked) rows)) None ≡ Some (task.Make path stamp) → HasMake rows path stamp) [
       | true ↦ λ of.
           elim (find (covers ticket.asked) rows) as
-          (λ o. find (covers ticket.asked) rows ≡ o → option_and_then make_of o ≡ Some (task.Make path stamp) → HasMake rows path stamp) [
+          (λ o. find (covers ticket.asked) rows ≡ o → option_and_then (make_of yard rows) o ≡ Some (task.Make path stamp) → HasMake rows path stamp) [
             | None ↦ λ found made. absurd cc
             | Some row ↦ λ found made.
-                let parts = make_of_parts row path stamp made in
+                let parts = make_of_parts yard rows row path stamp made in
                 (row, found_contains (covers ticket.asked) rows row found, parts.0, parts.1, parts.2)
           ] refl of
       | false ↦ λ of. absurd cc
     ] is
 
 -- the row that the first make is for
-pub first_task_row : (rows : List Row) (tickets : List Ticket) (path : List (List ℕ)) (stamp : ℕ) →
-    first_task rows tickets ≡ Some (task.Make path stamp) →
+pub first_make_row : (yard : Yard) (rows : List Row) (tickets : List Ticket) (path : List (List ℕ)) (stamp : ℕ) →
+    first_make yard rows tickets ≡ Some (task.Make path stamp) →
     (row : Row) × Contains rows row × (row.path ≡ path) × (row.stamp ≡ stamp) × (row.stands ≡ false)
-first_task_row rows [] path stamp is = absurd cc
-first_task_row rows (ticket ∷ tickets) path stamp is =
-    elim (task_of rows ticket) as
-    (λ o. task_of rows ticket ≡ o → option_or o (first_task rows tickets) ≡ Some (task.Make path stamp) → HasMake rows path stamp) [
-      | None ↦ λ here more. first_task_row rows tickets path stamp more
-      | Some one ↦ λ here more. task_of_row rows ticket path stamp (here ∙ more)
+first_make_row yard rows [] path stamp is = absurd cc
+first_make_row yard rows (ticket ∷ tickets) path stamp is =
+    elim (task_of yard rows ticket) as
+    (λ o. task_of yard rows ticket ≡ o → option_or o (first_make yard rows tickets) ≡ Some (task.Make path stamp) → HasMake rows path stamp) [
+      | None ↦ λ here more. first_make_row yard rows tickets path stamp more
+      | Some one ↦ λ here more. task_of_row yard rows ticket path stamp (here ∙ more)
     ] refl is
 
 -- of rows that are apart, a test that one passes, and none at another path, finds that one
@@ -113,11 +122,11 @@ apart_declared rows row apart among =
     apart among
 
 -- the row that the first make is for is found, both at the task's path and under its stamp, and doesn't stand
-pub first_task_found : (rows : List Row) (tickets : List Ticket) (path : List (List ℕ)) (stamp : ℕ) → are_apart rows ≡ true →
-    first_task rows tickets ≡ Some (task.Make path stamp) →
+pub first_make_found : (yard : Yard) (rows : List Row) (tickets : List Ticket) (path : List (List ℕ)) (stamp : ℕ) → are_apart rows ≡ true →
+    first_make yard rows tickets ≡ Some (task.Make path stamp) →
     (row : Row) × (find (is_at_path path) rows ≡ Some row) × (find (is_declared path stamp) rows ≡ Some row) × (row.stands ≡ false)
-first_task_found rows tickets path stamp apart is =
-    let made = first_task_row rows tickets path stamp is in (
+first_make_found yard rows tickets path stamp apart is =
+    let made = first_make_row yard rows tickets path stamp is in (
       made.0,
       subst (λ (p : List (List ℕ)). find (is_at_path p) rows ≡ Some made.0) made.2 (apart_at rows made.0 apart made.1),
       ap₂ (λ (p : List (List ℕ)) (s : ℕ). find (is_declared p s) rows) (sym made.2) (sym made.3) ∙ apart_declared rows made.0 apart made.1,

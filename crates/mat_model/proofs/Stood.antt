@@ -11,7 +11,7 @@ use Rattle.mat_tree.specs.declared.flat.What.{What}
 use Rattle.mat_tree.specs.Trees.{what_at, file_tree}
 use Rattle.mat_tree.specs.Parts.{Part, file, declared_by, Holds, bare, below, replaced, with_node}
 use Rattle.mat_model.specs.declared.book.Row.{Row}
-use Rattle.mat_model.specs.Rows.{is_at_path, put_row, used_row, standing_row, comes_before, is_apart, are_apart, stands_above, what_there, stood_at}
+use Rattle.mat_model.specs.Rows.{are_apart, comes_before, is_apart, is_at_path, put_row, standing_row, stands_above, stood_at, used_row, what_there}
 use Rattle.mat_model.specs.Holding.{AreHeld}
 use Rattle.mat_model.proofs.Tests.{and_true_parts}
 use Rattle.mat_model.proofs.Apart.{apart_parts, overlap-refl}

@@ -13,7 +13,7 @@ use Rattle.mat_model.specs.declared.entries.Outcome.TheVariants as outcome
 use Rattle.mat_model.specs.declared.entries.Task.TheVariants as task
 use Rattle.mat_model.specs.declared.requests.Asked.TheVariants as asked
 use Rattle.mat_model.specs.Gate.{Served}
-use Rattle.mat_model.specs.History.{answer_event, book_of}
+use Rattle.mat_model.specs.History.{Opening, answer, point_of}
 
 -- the book that knows nothing yet
 abbrev pub empty_book : Book
@@ -27,6 +27,10 @@ empty_book = record {
   holds = [];
   tickets = [];
 }
+
+-- a daemon that begins with nothing
+abbrev pub new_daemon : Opening
+new_daemon = record { book = empty_book; strays = [] }
 
 -- the path `out`
 abbrev pub out_path : List (List ℕ)
@@ -83,4 +87,4 @@ first_run digest =
 
 -- what comes of an event at the moment 0 behind a history that began with the empty book
 abbrev pub served_next : List Entry → Event → Served
-served_next history what = answer_event (book_of empty_book history) history 0 what
+served_next history what = answer (point_of new_daemon history) 0 what reply.Started

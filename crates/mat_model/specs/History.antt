@@ -1,105 +1,287 @@
--- What a history means: the book after each entry, and the rules that make it a legal one.
-use Rattle.std.specs.Prelude.{◌≡◌, ℕ, ◌+◌, ◌-◌, ◌==◌, nat_le, Bool, false, if◌then◌else◌, List, [], ◌∷◌, ◌++◌, length, count_by, Option, Some, None}
-use Rattle.std.specs.List.{slice_get, list_any}
+-- What a history means: the book, the work state and the stored rows after each entry, and the rules that make it a legal one.
+use Rattle.std.specs.Prelude.{◌≡◌, ◌⊎◌, ℕ, ◌+◌, ◌-◌, ◌^◌, ◌<◌, ◌≤◌, ◌==◌, ◌&&◌, Bool, true, false, not, if◌then◌else◌, List, [], ◌∷◌, ◌++◌, length, count_by, map, Option, Some, None}
+use Rattle.std.specs.List.{list_any}
 use Rattle.std.specs.Option.{option_and_then}
+use Rattle.mat_tree.specs.declared.flat.Flat.{Flat}
+use Rattle.mat_model.specs.declared.answers.Device.{Device}
+use Rattle.mat_model.specs.declared.answers.Device.TheVariants as device
+use Rattle.mat_model.specs.declared.answers.FaultNote.{FaultNote}
+use Rattle.mat_model.specs.declared.answers.Recorded.{Recorded}
+use Rattle.mat_model.specs.declared.answers.Recorded.TheVariants as recorded
+use Rattle.mat_model.specs.declared.answers.Reply.{Reply}
+use Rattle.mat_model.specs.declared.answers.Reply.TheVariants as reply
 use Rattle.mat_model.specs.declared.book.Book.{Book}
 use Rattle.mat_model.specs.declared.entries.Entry.{Entry}
 use Rattle.mat_model.specs.declared.entries.Event.{Event}
 use Rattle.mat_model.specs.declared.entries.Event.TheVariants as event
 use Rattle.mat_model.specs.declared.entries.Outcome.{Outcome}
+use Rattle.mat_model.specs.declared.entries.Outcome.TheVariants as outcome
 use Rattle.mat_model.specs.declared.entries.Task.{Task}
-use Rattle.mat_model.specs.declared.answers.Reply.TheVariants as reply
+use Rattle.mat_model.specs.declared.entries.Task.TheVariants as task
+use Rattle.mat_model.specs.declared.requests.Asked.{Asked}
+use Rattle.mat_model.specs.declared.requests.Asked.TheVariants as asked
+use Rattle.mat_model.specs.Declarations.{declared_at}
 use Rattle.mat_model.specs.Gate.{Served}
-use Rattle.mat_model.specs.Requests.{serve}
-use Rattle.mat_model.specs.Work.{finish, first_task}
+use Rattle.mat_model.specs.Kept.{KeptRow, due, kept_asked, kept_begun, kept_done, kept_row, may_fail, overlaps_kept}
+use Rattle.mat_model.specs.Requests.{Aside, at_moment, serve}
+use Rattle.mat_model.specs.Work.{finish, refuse}
+use Rattle.mat_model.specs.Yard.{Job, Yard, ended, first_task, idle_yard, path_of_task, refused, running, started, strays, yard_asked}
 
--- the history number of the entry that comes after some
-abbrev pub number_after : ℕ → List Entry → ℕ
-number_after first earlier = first + length earlier
+-- what a daemon begins with: a book, whose rows are the stored ones, and the strays that the disk has
+pub record Opening : Type 0 where
+  pub book : Book
+  pub strays : List (List (List ℕ))
 
--- the task that an entry began
-abbrev pub begun_by : Event → Option Task
-begun_by (event.Begin task) = Some task
-begun_by (event.Asked request) = None
-begun_by (event.Done job out) = None
+-- what a history has led to: its entries so far, the book, the work state, the stored rows, and how many nodes were declared
+pub record Point : Type 0 where
+  pub history : List Entry
+  pub book : Book
+  pub yard : Yard
+  pub kept : List KeptRow
+  pub nodes : ℕ
 
-abbrev pub begun_at : Entry → Option Task
-begun_at entry = begun_by entry.event
+-- the point of an opening
+abbrev pub opened : Opening → Point
+opened opening = record {
+  history = [];
+  book = opening.book;
+  yard = idle_yard opening.strays;
+  kept = map kept_row opening.book.rows;
+  nodes = 0;
+}
 
--- the task of a job: that of the entry with its number
-abbrev pub task_of_job : ℕ → List Entry → ℕ → Option Task
-task_of_job first earlier job =
-    if nat_le first job then option_and_then begun_at (slice_get earlier (job - first)) else None
+-- the history number of the next entry
+abbrev pub next_number : Point → ℕ
+next_number point = point.book.first + length point.history
 
--- the end of a job whose task is given
-abbrev pub end_job : ℕ → Outcome → Book → Option Task → Served
-end_job number out book None = record { reply = reply.Stale; book = book }
-end_job number out book (Some task) = finish number task out book
+-- what a request's answer takes from beside the book
+abbrev pub aside : Point → Aside
+aside point = record { strays = strays point.yard; due = due point.book point.kept }
 
--- what an event is answered at a moment, and the book after it
-abbrev pub answer_event : Book → List Entry → ℕ → Event → Served
-answer_event book earlier moment (event.Asked request) = serve (number_after book.first earlier) moment request book
-answer_event book earlier moment (event.Begin task) = record { reply = reply.Started; book = book }
-answer_event book earlier moment (event.Done job out) =
-    end_job (number_after book.first earlier) out book (task_of_job book.first earlier job)
+-- ---- replies
 
--- the book after an entry
-abbrev pub after : Book → List Entry → Entry → Book
-after book earlier entry = (answer_event book earlier entry.now entry.event).book
+-- whether a device is the store of kept rows
+abbrev pub is_keeper : Device → Bool
+is_keeper device.Disk = false
+is_keeper device.Store = false
+is_keeper device.Keeper = true
 
--- the book after all entries, behind the earlier ones
-abbrev pub book_from : Book → List Entry → List Entry → Book
-book_from book earlier [] = book
-book_from book earlier (entry ∷ entries) = book_from (after book earlier entry) (earlier ++ entry ∷ []) entries
+-- whether a reply is that this store failed
+abbrev pub is_store_fault : Reply → Bool
+is_store_fault (reply.Fault note) = is_keeper note.device
+is_store_fault _ = false
 
--- the book of a history
-abbrev pub book_of : Book → List Entry → Book
-book_of opening history = book_from opening [] history
+-- a request with a reply: the one of the definitions, or that the store failed where it may, which changes nothing but the moment
+abbrev pub answer_asked : Point → ℕ → Asked → Reply → Served
+answer_asked point moment request said =
+    if may_fail request point.book point.kept && is_store_fault said then record { reply = said; book = at_moment moment point.book }
+    else serve (next_number point) moment (aside point) request point.book
+
+-- the note with which a job was refused, if it was
+abbrev pub refusal_note : Reply → Option FaultNote
+refusal_note (reply.Refused note) = Some note
+refusal_note _ = None
+
+-- the begin of a job started, or was refused with a note where the store failed to remove a stored row that overlaps its path
+abbrev pub begin_with : Point → Task → Option FaultNote → Served
+begin_with point begun None = record { reply = reply.Started; book = point.book }
+begin_with point begun (Some note) =
+    if is_keeper note.device && list_any (overlaps_kept (path_of_task begun)) point.kept then
+    refuse (next_number point) begun note point.book
+    else record { reply = reply.Started; book = point.book }
+
+-- the begin of a job with a reply
+abbrev pub answer_begin : Point → Task → Reply → Served
+answer_begin point begun said = begin_with point begun (refusal_note said)
+
+-- how a row was recorded, by the reply to the end of its make
+abbrev pub recorded_as : Reply → Recorded
+recorded_as (reply.Fresh how) = how
+recorded_as _ = recorded.Nothing
+
+-- the end of a job with a reply, where the job that runs under its number, if one does, is given
+abbrev pub answer_done : Point → Outcome → Reply → Option Job → Served
+answer_done point out said None = record { reply = reply.Stale; book = point.book }
+answer_done point out said (Some job) = finish (next_number point) job.task out (recorded_as said) point.book
+
+-- an event at a moment with a reply, from which only what the definitions leave open is taken
+abbrev pub answer : Point → ℕ → Event → Reply → Served
+answer point moment (event.Asked request) said = answer_asked point moment request said
+answer point moment (event.Begin begun) said = answer_begin point begun said
+answer point moment (event.Done job out) said = answer_done point out said (running job point.yard)
+
+-- ---- what comes of an event
+
+-- the work state after a begin, which may have been refused with a note
+abbrev pub yard_begun : Point → ℕ → Task → Option FaultNote → Yard
+yard_begun point caller begun None = started (next_number point) caller begun point.book.rows point.yard
+yard_begun point caller begun (Some note) = refused begun point.yard
+
+-- the work state after an event of a caller that was served so
+abbrev pub yard_after : Point → ℕ → Event → Served → Yard
+yard_after point caller (event.Asked request) served =
+    yard_asked request served.reply point.book.rows served.book.rows point.yard
+yard_after point caller (event.Begin begun) served = yard_begun point caller begun (refusal_note served.reply)
+yard_after point caller (event.Done job out) served =
+    ended job out served.reply served.book.rows point.yard (running job point.yard)
+
+-- the stored rows after a begin, which may have been refused with a note, and after an end with its reply
+abbrev pub kept_started : Task → Option FaultNote → List KeptRow → List KeptRow
+kept_started begun None kept = kept_begun begun kept
+kept_started begun (Some note) kept = kept
+
+abbrev pub kept_ended : Option Job → Served → List KeptRow → List KeptRow
+kept_ended None served kept = kept
+kept_ended (Some job) served kept = kept_done job.task served.reply served.book.rows kept
+
+abbrev pub kept_after : Point → Event → Served → List KeptRow
+kept_after point (event.Asked request) served = kept_asked request served.reply served.book.rows point.kept
+kept_after point (event.Begin begun) served = kept_started begun (refusal_note served.reply) point.kept
+kept_after point (event.Done job out) served = kept_ended (running job point.yard) served point.kept
+
+-- how many nodes a tree has, if there is one
+abbrev pub nodes_in : Option (List Flat) → ℕ
+nodes_in None = 0
+nodes_in (Some tree) = length tree
+
+-- whether a reply is that a tree is declared
+abbrev pub says_declared : Reply → Bool
+says_declared (reply.Declared stamp) = true
+says_declared (reply.Kept stamp) = true
+says_declared _ = false
+
+-- how many nodes a request declares: whatever a write or a declaration is answered, and a copy where it is declared
+abbrev pub nodes_of : Asked → Reply → Book → ℕ
+nodes_of (asked.Write command path sum) said book = 1
+nodes_of (asked.Declare command path tree) said book = length tree
+nodes_of (asked.Copy command path source) said book = if says_declared said then nodes_in (declared_at book.rows source) else 0
+nodes_of _ said book = 0
+
+abbrev pub nodes_by : Event → Reply → Book → ℕ
+nodes_by (event.Asked request) said book = nodes_of request said book
+nodes_by (event.Begin begun) said book = 0
+nodes_by (event.Done job out) said book = 0
+
+-- the point after an event of a caller that was served so, with its entry
+abbrev pub stepped : Point → Entry → Served → Point
+stepped point entry served = record {
+  history = point.history ++ entry ∷ [];
+  book = served.book;
+  yard = yard_after point entry.by.caller entry.event served;
+  kept = kept_after point entry.event served;
+  nodes = point.nodes + nodes_by entry.event served.reply point.book;
+}
+
+-- the point after an entry
+abbrev pub after : Point → Entry → Point
+after point entry = stepped point entry (answer point entry.now entry.event entry.reply)
+
+-- the point after some entries
+abbrev pub after_all : Point → List Entry → Point
+after_all point [] = point
+after_all point (entry ∷ entries) = after_all (after point entry) entries
+
+-- the point, and the book, that a history leads to
+abbrev pub point_of : Opening → List Entry → Point
+point_of opening history = after_all (opened opening) history
+
+abbrev pub book_of : Opening → List Entry → Book
+book_of opening history = (point_of opening history).book
+
+-- ---- legal histories
 
 -- whether an entry is a caller's
 abbrev pub is_of : ℕ → Entry → Bool
 is_of caller entry = entry.by.caller == caller
 
--- whether an event ends a job
-abbrev pub ends : ℕ → Event → Bool
-ends job (event.Done ended out) = ended == job
-ends job (event.Asked request) = false
-ends job (event.Begin task) = false
+-- whether a job may end so: a make doesn't end wiped, and a wipe ends wiped, with a fault or for want of memory
+abbrev pub may_end : Task → Outcome → Bool
+may_end (task.Make path stamp) outcome.Wiped = false
+may_end (task.Make path stamp) _ = true
+may_end (task.Wipe path) outcome.Wiped = true
+may_end (task.Wipe path) (outcome.Fault note) = true
+may_end (task.Wipe path) outcome.NoMemory = true
+may_end (task.Wipe path) _ = false
 
-abbrev pub ends_job : ℕ → Entry → Bool
-ends_job job entry = ends job entry.event
+-- work comes in order: a begin takes the task that comes first, and a done ends a job that runs, by its own caller and as it may end
+abbrev pub IsInOrder : Point → ℕ → Event → Type 0
+IsInOrder point caller (event.Asked request) = Unit {0}
+IsInOrder point caller (event.Begin begun) = first_task point.yard point.book ≡ Some begun
+IsInOrder point caller (event.Done number out) =
+    (job : Job) × (running number point.yard ≡ Some job) × (job.caller ≡ caller) × (may_end job.task out ≡ true)
 
--- the caller of the entry with a number
-abbrev pub caller_of : Entry → Option ℕ
-caller_of entry = Some entry.by.caller
-
-abbrev pub caller_at : ℕ → List Entry → ℕ → Option ℕ
-caller_at first earlier number = option_and_then caller_of (slice_get earlier (number - first))
-
--- work comes in order: a begin takes the task that comes first, and a done ends a job that runs, by its own caller
-abbrev pub IsInOrder : Book → List Entry → ℕ → Event → Type 0
-IsInOrder book earlier caller (event.Asked request) = Unit {0}
-IsInOrder book earlier caller (event.Begin task) = first_task book.rows book.tickets ≡ Some task
-IsInOrder book earlier caller (event.Done job out) =
-    (begun : Task) × (task_of_job book.first earlier job ≡ Some begun) × (list_any (ends_job job) earlier ≡ false)
-    × (caller_at book.first earlier job ≡ Some caller)
-
--- an entry is legal behind the earlier ones
-pub record IsLegalEntry (book : Book) (earlier : List Entry) (entry : Entry) : Type 0 where
+-- an entry is legal at a point
+pub record IsLegalEntry (point : Point) (entry : Entry) : Type 0 where
   -- its reply is the one of the definitions
-  pub reply : entry.reply ≡ (answer_event book earlier entry.now entry.event).reply
+  pub reply : entry.reply ≡ (answer point entry.now entry.event entry.reply).reply
   -- its moment is the book's afterwards
-  pub moment : entry.now ≡ (after book earlier entry).now
+  pub moment : entry.now ≡ (after point entry).book.now
   -- its number is the number of its caller's earlier entries
-  pub number : entry.by.number ≡ count_by (is_of entry.by.caller) earlier
-  pub order : IsInOrder book earlier entry.by.caller entry.event
+  pub number : entry.by.number ≡ count_by (is_of entry.by.caller) point.history
+  -- work comes in order
+  pub order : IsInOrder point entry.by.caller entry.event
 
--- each entry is legal behind the ones before it
-abbrev pub IsLegalFrom : Book → List Entry → List Entry → Type 0
-IsLegalFrom book earlier [] = Unit {0}
-IsLegalFrom book earlier (entry ∷ entries) =
-    IsLegalEntry book earlier entry × IsLegalFrom (after book earlier entry) (earlier ++ entry ∷ []) entries
+-- a rule holds of each entry at its point
+abbrev pub IsEach : (Point → Entry → Type 0) → Point → List Entry → Type 0
+IsEach Rule point [] = Unit {0}
+IsEach Rule point (entry ∷ entries) = Rule point entry × IsEach Rule (after point entry) entries
 
 -- a history is legal from an opening
-abbrev pub IsLegal : Book → List Entry → Type 0
-IsLegal opening history = IsLegalFrom opening [] history
+abbrev pub IsLegal : Opening → List Entry → Type 0
+IsLegal opening history = IsEach IsLegalEntry (opened opening) history
+
+-- ---- what the state store adds
+
+-- whether nothing was recorded
+abbrev pub is_nothing : Recorded → Bool
+is_nothing recorded.Kept = false
+is_nothing (recorded.NotKept note) = false
+is_nothing recorded.NoMemory = false
+is_nothing recorded.Nothing = true
+
+-- whether a job made its row
+abbrev pub is_made : Event → Bool
+is_made (event.Done job outcome.Made) = true
+is_made _ = false
+
+-- what counts is recorded exactly where a row was made
+abbrev pub IsRecordedAs : Event → Reply → Type 0
+IsRecordedAs happened (reply.Fresh how) = is_nothing how ≡ not (is_made happened)
+IsRecordedAs happened _ = Unit {0}
+
+abbrev pub IsRecorded : Point → Entry → Type 0
+IsRecorded point entry = IsRecordedAs entry.event entry.reply
+
+-- the note of the state store that a reply has, if it has one
+abbrev pub note_recorded : Recorded → Option FaultNote
+note_recorded recorded.Kept = None
+note_recorded (recorded.NotKept note) = Some note
+note_recorded recorded.NoMemory = None
+note_recorded recorded.Nothing = None
+
+abbrev pub note_of : Reply → Option FaultNote
+note_of (reply.Fault note) = Some note
+note_of (reply.Refused note) = Some note
+note_of (reply.Fresh how) = note_recorded how
+note_of _ = None
+
+-- the count behind a note, if there is one
+abbrev pub behind : ℕ → Option FaultNote → ℕ
+behind count None = count
+behind count (Some note) = note.after
+
+-- the store's count behind the notes of some entries, from one on
+abbrev pub count_behind : ℕ → List Entry → ℕ
+count_behind count [] = count
+count_behind count (entry ∷ entries) = count_behind (behind count (note_of entry.reply)) entries
+
+-- a note is of the state store, its count rose, or stands at the last number that 64 bits hold, and it begins no earlier than a count
+abbrev pub IsNoteFrom : ℕ → Option FaultNote → Type 0
+IsNoteFrom count None = Unit {0}
+IsNoteFrom count (Some note) =
+    (is_keeper note.device ≡ true) × (count ≤ note.before)
+    × ((note.before < note.after) ⊎ ((note.before ≡ 2 ^ 64 - 1) × (note.after ≡ 2 ^ 64 - 1)))
+
+-- the notes of the state store don't overlap
+abbrev pub IsNoteApart : Point → Entry → Type 0
+IsNoteApart point entry = IsNoteFrom (count_behind 0 point.history) (note_of entry.reply)

@@ -17,8 +17,10 @@ use Rattle.mat_model.specs.declared.entries.Event.{Event}
 use Rattle.mat_model.specs.declared.entries.Event.TheVariants as event
 use Rattle.mat_model.specs.declared.requests.Asked.{Asked}
 use Rattle.mat_model.specs.declared.requests.Asked.TheVariants as asked
-use Rattle.mat_model.specs.Requests.{is_open}
-use Rattle.mat_model.specs.Rows.{covers, cover, overlaps_row}
+use Rattle.mat_model.specs.declared.requests.CleanMode.{CleanMode}
+use Rattle.mat_model.specs.declared.requests.CleanMode.TheVariants as mode
+use Rattle.mat_model.specs.Tickets.{is_open}
+use Rattle.mat_model.specs.Rows.{cover, covers, overlaps_row}
 
 -- a row that stands covers a path, and has this stamp and this sum
 abbrev pub IsReady : List Row → List (List ℕ) → ℕ → Sum → Type 0
@@ -43,17 +45,39 @@ StillStands row rows =
     (next : Row) × Contains rows next × (next.stands ≡ true) × (next.path ≡ row.path) × (next.tree ≡ row.tree)
     × (next.sum ≡ row.sum) × (next.stamp ≡ row.stamp)
 
--- whether a request can end that a row stands: it writes at a path that overlaps the row's
-abbrev pub disturbs : Asked → Row → Bool
-disturbs (asked.Write command path sum) row = overlaps_row path row
-disturbs (asked.Enter command state) row = false
-disturbs (asked.Ensure command path) row = false
+-- whether a clean removes rows
+abbrev pub removes : CleanMode → Bool
+removes mode.Real = true
+removes mode.Dry = false
+removes mode.All = true
 
--- the path that a request writes at
-abbrev pub written : Asked → Option (List (List ℕ))
-written (asked.Write command path sum) = Some path
-written (asked.Enter command state) = None
-written (asked.Ensure command path) = None
+-- whether a request can end that a row stands: it declares or removes at a path that overlaps the row's, or it cleans
+abbrev pub disturbs : Asked → Row → Bool
+disturbs (asked.Enter command state) row = false
+disturbs (asked.Leave command) row = false
+disturbs (asked.Write command path sum) row = overlaps_row path row
+disturbs (asked.Declare command path tree) row = overlaps_row path row
+disturbs (asked.Copy command path source) row = overlaps_row path row
+disturbs (asked.Matches command path sum) row = false
+disturbs (asked.Has command path) row = false
+disturbs (asked.Ensure command path) row = false
+disturbs (asked.Invalidate command path) row = overlaps_row path row
+disturbs (asked.Clean cutoff mode) row = removes mode
+disturbs asked.Flush row = false
+
+-- the path that a request declares at
+abbrev pub declares : Asked → Option (List (List ℕ))
+declares (asked.Enter command state) = None
+declares (asked.Leave command) = None
+declares (asked.Write command path sum) = Some path
+declares (asked.Declare command path tree) = Some path
+declares (asked.Copy command path source) = Some path
+declares (asked.Matches command path sum) = None
+declares (asked.Has command path) = None
+declares (asked.Ensure command path) = None
+declares (asked.Invalidate command path) = None
+declares (asked.Clean cutoff mode) = None
+declares asked.Flush = None
 
 -- the same of an event and of an entry
 abbrev pub disturbs_by : Event → Row → Bool

@@ -1,8 +1,14 @@
 pub mod Rows
 pub mod Gate
+pub mod Tickets
+pub mod Declarations
+pub mod Cleaning
 pub mod Requests
 pub mod Work
+pub mod Yard
+pub mod Kept
 pub mod History
+pub mod Room
 pub mod Holding
 pub mod Laws
 pub mod Examples

@@ -1,6 +1,7 @@
-use crate::answers::Reply;
+use crate::answers::{FaultNote, Reply};
 use crate::requests::Asked;
 use hall_lock::By;
+use mat_digest::Digest;
 use mat_path::Path;
 
 /// What a job is to do.
@@ -8,6 +9,8 @@ use mat_path::Path;
 pub enum Task {
     /// Make the tree of the row that was declared at this path under this stamp.
     Make { path: Path, stamp: u64 },
+    /// Leave nothing at and below this path.
+    Wipe { path: Path },
 }
 
 /// How a job ended.
@@ -15,6 +18,23 @@ pub enum Task {
 pub enum Outcome {
     /// The disk holds the tree.
     Made,
+    /// The disk has nothing there.
+    Wiped,
+    /// The store lacks a file of the tree.
+    Missing(Digest),
+    /// The store gave bytes of another digest for a file of the tree.
+    Corrupt { wanted: Digest, found: Digest },
+    /// A device failed.
+    Fault(FaultNote),
+    /// Want of memory.
+    NoMemory,
+}
+
+/// A running job: its number, which is the history number of its begin, and its task.
+#[derive(Debug, Drop)]
+pub struct Card {
+    pub job: u64,
+    pub task: Task,
 }
 
 /// One event of a history.

@@ -4,43 +4,30 @@ ghost use Rattle.mat_tree.specs.Trees.{file_sum, file_tree, same_digest};
 ghost use Rattle.mat_model.specs.declared.answers.Answer.TheVariants as answer;
 ghost use Rattle.mat_model.specs.declared.answers.Reply.TheVariants as reply;
 ghost use Rattle.mat_model.specs.declared.entries.Task.TheVariants as task;
-ghost use Rattle.mat_model.specs.Examples.{
-  an_entry,
-  asked_run,
-  asks,
-  deep_path,
-  empty_book,
-  enters,
-  file_path,
-  first_run,
-  made_run,
-  out_path,
-  served_next,
-  writes,
-};
-ghost use Rattle.mat_model.specs.History.{book_of, IsLegal};
-ghost use Rattle.mat_model.specs.Requests.{new_row};
-ghost use Rattle.mat_model.specs.Work.{first_task};
+ghost use Rattle.mat_model.specs.Examples.{an_entry, asked_run, asks, deep_path, empty_book, enters, file_path, first_run, made_run, new_daemon, out_path, served_next, writes};
+ghost use Rattle.mat_model.specs.History.{IsLegal, book_of, point_of};
+ghost use Rattle.mat_model.specs.Declarations.{new_row};
+ghost use Rattle.mat_model.specs.Yard.{first_task};
 
 /// The first run is a legal history: command 1 enters for state 7 and is live, its write of `out/f` is declared under
 /// stamp 1, its ensure of `out/f` opens ticket 2, the job that begins takes the make of `out/f` under stamp 1, its end
 /// counts, a further ensure is ready with that stamp and sum, an ensure of `out` finds no row, and a write by command 9
 /// is refused.
 pub fn first_run_is_legal()
-    ensures { (digest : Digest) → IsLegal empty_book (first_run digest) }
+    ensures { (digest : Digest) → IsLegal new_daemon (first_run digest) }
 {}
 
 /// Once `out/f` is asked for, its make comes first.
 pub fn first_run_task()
     ensures { (digest : Digest) →
-        first_task (book_of empty_book (asked_run digest)).rows (book_of empty_book (asked_run digest)).tickets
+        first_task (point_of new_daemon (asked_run digest)).yard (book_of new_daemon (asked_run digest))
         ≡ Some (task.Make file_path 1) }
 {}
 
 /// The end of the make, entry 4, answers ticket 2 with the stamp and the sum of the file.
 pub fn first_run_tickets()
     ensures { (digest : Digest) →
-        (book_of empty_book (made_run digest)).tickets
+        (book_of new_daemon (made_run digest)).tickets
         ≡ record {
           number = 2;
           command = 1;
@@ -52,7 +39,7 @@ pub fn first_run_tickets()
 /// The end of the make has the row stand, and changes nothing else of it.
 pub fn first_run_rows()
     ensures { (digest : Digest) →
-        (book_of empty_book (made_run digest)).rows
+        (book_of new_daemon (made_run digest)).rows
         ≡ record {
           path = file_path;
           tree = file_tree digest false;
@@ -67,7 +54,7 @@ pub fn first_run_rows()
 pub fn same_file_is_kept()
     ensures reply { (digest : Digest) → (served_next (made_run digest) (writes 1 file_path digest)).reply ≡ reply.Kept 1 }
     ensures rows { (digest : Digest) →
-        (served_next (made_run digest) (writes 1 file_path digest)).book.rows ≡ (book_of empty_book (made_run digest)).rows }
+        (served_next (made_run digest) (writes 1 file_path digest)).book.rows ≡ (book_of new_daemon (made_run digest)).rows }
 {}
 
 /// A write of another file at `out/f` while it is asked for declares a new row in the place of the old one. The new row
@@ -77,10 +64,10 @@ pub fn other_file_replaces()
         (served_next (asked_run digest) (writes 1 file_path other)).reply ≡ reply.Declared 3 }
     ensures rows { (digest other : Digest) → same_digest digest other ≡ false →
         (served_next (asked_run digest) (writes 1 file_path other)).book.rows
-        ≡ new_row 3 0 file_path (file_tree other false) (file_sum other false) ∷ [] }
+        ≡ new_row 3 0 file_path (file_tree other false) ∷ [] }
     ensures tickets { (digest other : Digest) → same_digest digest other ≡ false →
         (served_next (asked_run digest) (writes 1 file_path other)).book.tickets
-        ≡ (book_of empty_book (asked_run digest)).tickets }
+        ≡ (book_of new_daemon (asked_run digest)).tickets }
 {}
 
 /// A write of a file at `out` while `out/f` is asked for takes away the row that the ticket is on, and the new row has
@@ -89,7 +76,7 @@ pub fn file_above_replaces()
     ensures reply { (digest other : Digest) → (served_next (asked_run digest) (writes 1 out_path other)).reply ≡ reply.Declared 3 }
     ensures rows { (digest other : Digest) →
         (served_next (asked_run digest) (writes 1 out_path other)).book.rows
-        ≡ new_row 3 0 out_path (file_tree other false) (file_sum other false) ∷ [] }
+        ≡ new_row 3 0 out_path (file_tree other false) ∷ [] }
     ensures tickets { (digest other : Digest) →
         (served_next (asked_run digest) (writes 1 out_path other)).book.tickets
         ≡ record {

@@ -3,14 +3,18 @@
 
 mod answers;
 mod book;
+mod copies;
 mod entries;
 mod examples;
 mod laws;
+mod limits;
 mod requests;
+#[cfg(test)]
+mod tests;
 
-pub use answers::{Answer, Recorded, Reply};
+pub use answers::{Answer, Device, FaultNote, Gone, Limit, Recorded, Reply};
 pub use book::{Book, Given, Hold, Row, Ticket, Waiter};
-pub use entries::{Entry, Event, Outcome, Task};
+pub use entries::{Card, Entry, Event, Outcome, Task};
 pub use examples::{
     file_above_replaces, file_below_replaces, first_run_is_legal, first_run_rows, first_run_task,
     first_run_tickets, other_file_replaces, other_state_waits, replaced_is_asked,
@@ -24,4 +28,5 @@ pub use laws::{
     serve_keeps_apart, serve_keeps_gate, serve_keeps_standing, serve_keeps_tickets,
     write_is_declared,
 };
-pub use requests::{Asked, Request};
+pub use limits::Limits;
+pub use requests::{Asked, CleanMode, Request};

@@ -1,7 +1,7 @@
 use Rattle.std.proofs.Common.{arith, ap, ◌∙◌, get_or, slice_set}
 use Rattle.std.proofs.lemmas.List.Edits.{map_over_more}
 use Rattle.mat_model.specs.declared.book.Ticket.{Ticket}
-use Rattle.mat_model.specs.Work.{answered_by}
+use Rattle.mat_model.specs.Tickets.{answered_by}
 use Rattle.buckd.proofs.tickets.answer_row.Goals as goal
 
 pub loop-ticket-preserved : goal.loop-ticket-preserved

@@ -1,5 +1,5 @@
 use Rattle.std.proofs.Common.{◌≡◌, ◌++◌, map, take, drop}
-use Rattle.mat_model.specs.Work.{answered_by}
+use Rattle.mat_model.specs.Tickets.{answered_by}
 use Rattle.buckd.proofs.tickets.answer_row.Given as goal
 
 -- the tickets passed so far are as after the answer, the others as they were

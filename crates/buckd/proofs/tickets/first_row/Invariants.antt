@@ -1,7 +1,8 @@
 use Rattle.std.proofs.Common.{◌≡◌, drop}
-use Rattle.mat_model.specs.Work.{first_task}
+use Rattle.mat_model.specs.Yard.{first_make}
+use Rattle.buckd.specs.Run.{idle}
 use Rattle.buckd.proofs.tickets.first_row.Given as goal
 
 -- the task that comes first is that of the tickets that are left
 abbrev pub invariant-loop-ticket : goal.invariant-loop-ticket
-invariant-loop-ticket l = first_task l.rows (drop l.ticket-index l.tickets) ≡ first_task l.rows l.tickets
+invariant-loop-ticket l = first_make idle l.rows (drop l.ticket-index l.tickets) ≡ first_make idle l.rows l.tickets

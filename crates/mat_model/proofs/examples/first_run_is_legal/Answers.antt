@@ -1,4 +1,4 @@
-use Rattle.std.proofs.Common.{refl}
+use Rattle.std.proofs.Common.{None, refl}
 use Rattle.mat_model.specs.Examples.{file_path}
 use Rattle.mat_model.specs.declared.entries.Task.TheVariants as task
 use Rattle.mat_model.proofs.examples.first_run_is_legal.Goals as goal
@@ -13,7 +13,7 @@ returns c digest = (
       (
         record { reply = refl; moment = refl; number = refl; order = refl },
         (
-          record { reply = refl; moment = refl; number = refl; order = (task.Make file_path 1, refl, refl, refl) },
+          record { reply = refl; moment = refl; number = refl; order = (record { number = 3; caller = 2; task = task.Make file_path 1; lent = None }, refl, refl, refl) },
           (
             record { reply = refl; moment = refl; number = refl; order = tt },
             (

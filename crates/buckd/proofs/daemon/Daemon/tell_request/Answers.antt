@@ -1,5 +1,4 @@
 use Rattle.std.proofs.Common.{◌≡◌, ℕ, ◌+◌, List, ◌++◌, length, codes, false, sym, subst, ap, ◌∙◌, arith}
-use Rattle.mat_model.specs.declared.entries.Event.TheVariants as event
 use Rattle.buckd.specs.Daemon.{book_of, point_of}
 use Rattle.buckd.specs.Run.{asked_of, is_not_yet}
 use Rattle.buckd.specs.Sound.{IsPast}
@@ -21,7 +20,7 @@ returns-clause-told c =
 pub returns-clause-sound : goal.returns-clause-sound
 returns-clause-sound c =
     on_ok c.push_text-2.result
-    (λ text. sound-stepped (event.Asked (asked_of c.args.request)) c.args.self.now c.serve.new.self c.in_ok-reply.reply
+    (λ text. sound-stepped (asked_of c.args.request) c.args.self.now c.serve.new.self c.in_ok-reply.reply
     c.in_ok-reply.ensures.served c.in_ok-reply.ensures.kept
     (c.in_ok-reply.ensures.past (length c.args.self.now.history.items) c.requires.past))
     c.push_text-2.ensures.ok
