@@ -2,6 +2,8 @@ pub mod Answering
 pub mod Appends
 pub mod BothTests
 pub mod Children
+pub mod FlatLevels
+pub mod HashBytes
 pub mod Levels
 pub mod ListBack
 pub mod Measures
@@ -10,4 +12,8 @@ pub mod NodeBack
 pub mod Order
 pub mod Search
 pub mod Steps
+pub mod SumMessageBack
+pub mod SumOrder
+pub mod SumRules
+pub mod SumText
 pub mod WireBack

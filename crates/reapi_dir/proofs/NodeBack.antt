@@ -123,13 +123,13 @@ digest_field_spells bytes d limit end rest h fits read =
 
 -- ---- names and targets
 
-name_len : (name : List ℕ) → is_name name ≡ true → length name ≤ 255
+pub name_len : (name : List ℕ) → is_name name ≡ true → length name ≤ 255
 name_len name h =
     leb-true (length name) 255 (and_second (nat_le 1 (length name)) (nat_le (length name) 255)
     (and_first (nat_le 1 (length name) && nat_le (length name) 255) (list_all is_name_byte name)
     (and_first (nat_le 1 (length name) && nat_le (length name) 255 && list_all is_name_byte name) (not (is_dots name)) h)))
 
-target_len : (target : List ℕ) → is_target target ≡ true → length target ≤ 1024
+pub target_len : (target : List ℕ) → is_target target ≡ true → length target ≤ 1024
 target_len target h =
     leb-true (length target) 1024 (and_second (nat_le 1 (length target)) (nat_le (length target) 1024)
     (and_first (nat_le 1 (length target) && nat_le (length target) 1024) (list_all is_text_byte target) h))

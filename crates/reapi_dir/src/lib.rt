@@ -12,6 +12,7 @@ mod read_node;
 mod read_wire;
 mod refusal;
 mod sum;
+mod sum_laws;
 #[cfg(test)]
 mod tests;
 #[cfg(test)]
@@ -24,4 +25,5 @@ pub use read::read_dir;
 pub use read_laws::{refusals_are_exact, text_is_one};
 pub use refusal::DirRefusal;
 pub use sum::sum_of;
+pub use sum_laws::{read_children, sum_is_of_message};
 pub use write::write_dir;

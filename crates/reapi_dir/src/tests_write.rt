@@ -1,4 +1,4 @@
-use crate::{DirMessage, DirNode, FileNode, LinkNode, sum_of, write_dir};
+use crate::{DirMessage, DirNode, FileNode, LinkNode, read_children, sum_of, write_dir};
 use mat_digest::Digest;
 use mat_path::{Items, Name, Path, Rel, Target};
 use mat_tree::{Flat, Kind, Tree, What};
@@ -183,5 +183,19 @@ fn sums_are_those_of_messages(rt: HostRuntime) -> Result<(), Fail> {
         assert_eq!(rt; sum.kind, *kind);
         assert_eq!(rt; sum.digest.write_text().bytes(), *text);
     }
+    Ok(())
+}
+
+#[test]
+fn a_tree_without_directories_is_read_from_its_message(rt: HostRuntime) -> Result<(), Fail> {
+    let rows: [(u8, &[u8], u64); 3] = [(b'f', b"a", 3), (b'x', b"b", 3), (b'l', b"c", 0)];
+    let bytes = written(rt.alloc(), &rows)?;
+    let message = read_children(rt.alloc(), bytes.as_slice())?;
+    let counts = (
+        message.files.as_slice().len(),
+        message.dirs.as_slice().len(),
+        message.links.as_slice().len(),
+    );
+    assert_eq!(rt; counts, (2, 0, 1));
     Ok(())
 }
