@@ -1,0 +1,17 @@
+-- A store in memory, as contracts see it.
+use Rattle.std.specs.Prelude.{◌≡◌, ℕ, false, List, Some}
+use Rattle.std.specs.BTreeMap.{get}
+use Rattle.std.specs.Ordering.{is_eq}
+use Rattle.mat_digest.specs.declared.digest.Digest.{Digest}
+use Rattle.fetch_port.specs.declared.mem_store.MemStore.{MemStore}
+use Rattle.fetch_port.specs.Fetches.{Blobs}
+use Rattle.fetch_port.specs.Keys.{key_cmp, key_of}
+
+-- the bytes that a store in memory holds under a digest
+abbrev pub blobs_of : MemStore → Blobs
+blobs_of store digest = get key_cmp store.blobs (key_of digest)
+
+-- these bytes were put under a digest, and what stands under each other digest stayed
+pub record HasPut (digest : Digest) (bytes : List ℕ) (old new : MemStore) : Type 0 where
+  pub found : blobs_of new digest ≡ Some bytes
+  pub others : (other : Digest) → is_eq (key_cmp (key_of digest) (key_of other)) ≡ false → blobs_of new other ≡ blobs_of old other
