@@ -36,7 +36,7 @@ use Rattle.mat_model.proofs.Idle.{has_one, idle_first, itself, no_wipe, none_rem
 use Rattle.mat_model.proofs.LawLemmas.{contains_map, contains_put, history_apart, used-stamp}
 use Rattle.mat_model.proofs.LegalLemmas.{KeepsClock, after_all-push, count_by-all, each-push, finish-clock, history-all, serve-clock}
 use Rattle.mat_model.proofs.Makes.{first_make_found}
-use Rattle.mat_model.proofs.Tests.{and_false_right, and_true_parts}
+use Rattle.mat_model.proofs.ListTests.{and_false_right, and_true_parts}
 use Rattle.buckd.specs.declared.items.Item.{Item}
 use Rattle.buckd.specs.declared.items.Item.TheVariants as item
 use Rattle.buckd.specs.declared.items.Line.{Line}

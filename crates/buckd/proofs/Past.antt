@@ -9,7 +9,7 @@ use Rattle.mat_model.specs.declared.book.Given.{Given}
 use Rattle.mat_model.specs.declared.book.Row.{Row}
 use Rattle.mat_model.specs.declared.book.Ticket.{Ticket}
 use Rattle.mat_model.specs.Tickets.{answered_by, waits_for, with_answer}
-use Rattle.mat_model.proofs.Tests.{and_true_parts}
+use Rattle.mat_model.proofs.ListTests.{and_true_parts}
 use Rattle.buckd.specs.Sound.{is_before, is_answered_before}
 use Rattle.buckd.specs.Texts.{answer_line, given_line, ticket_line, answer_lines}
 

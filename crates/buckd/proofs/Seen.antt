@@ -15,7 +15,7 @@ use Rattle.mat_tree.specs.Trees.{root_file, file_tree, is_at, what_of, what_at}
 use Rattle.mat_tree.specs.Parts.{Part, declared_by, Holds, below}
 use Rattle.mat_model.specs.declared.book.Row.{Row}
 use Rattle.mat_model.specs.Rows.{are_apart, at_rel, comes_before, is_apart, is_standing, seen_below, seen_node, seen_of, stands_above, stood_at, what_there}
-use Rattle.mat_model.proofs.Tests.{and_true_parts}
+use Rattle.mat_model.proofs.ListTests.{and_true_parts}
 use Rattle.mat_model.proofs.Apart.{apart_parts, before-trans}
 use Rattle.mat_model.proofs.Stood.{stood_none}
 use Rattle.region_port.specs.Listing.{comes_first, ascends, rels_of}

@@ -9,7 +9,7 @@ use Rattle.mat_path.proofs.PathLemmas.{same_names-eq, path_cmp_equal}
 use Rattle.mat_tree.specs.Trees.{file_tree}
 use Rattle.mat_model.specs.declared.book.Row.{Row}
 use Rattle.mat_model.specs.Rows.{comes_before, is_at_path, overlaps_row, put_row, standing_row, used_row}
-use Rattle.mat_model.proofs.Tests.{or_false_parts}
+use Rattle.mat_model.proofs.ListTests.{or_false_parts}
 use Rattle.mat_model.proofs.Apart.{overlap-refl}
 use Rattle.mat_model.proofs.Stood.{used-path, used-tree, standing-path}
 use Rattle.buckd.specs.Sound.{Kept, IsWritten, AreWritten}

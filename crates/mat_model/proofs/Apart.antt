@@ -7,7 +7,7 @@ use Rattle.mat_path.specs.Names.{is_prefix, overlap, path_cmp}
 use Rattle.mat_path.proofs.PathLemmas.{path_cmp_total, path_cmp_equal, overlap_comm, prefix-refl}
 use Rattle.mat_model.specs.declared.book.Row.{Row}
 use Rattle.mat_model.specs.Rows.{are_apart, comes_before, is_apart, overlaps_row, put_row}
-use Rattle.mat_model.proofs.Tests.{or_false_parts, and_true_parts, not_true}
+use Rattle.mat_model.proofs.ListTests.{or_false_parts, and_true_parts, not_true}
 
 -- a path overlaps itself
 pub overlap-refl : (p : List (List ℕ)) → overlap p p ≡ true

@@ -4,7 +4,6 @@ use Rattle.std.specs.List.{list_any, filter}
 use Rattle.mat_path.specs.Names.{is_prefix, overlap}
 use Rattle.mat_path.proofs.PathLemmas.{same_names-eq, prefix-refl}
 use Rattle.mat_tree.specs.declared.flat.Flat.{Flat}
-use Rattle.mat_tree.specs.declared.sum.Sum.{Sum}
 use Rattle.mat_digest.specs.declared.digest.Digest.{Digest}
 use Rattle.mat_tree.specs.Trees.{file_sum, file_tree, same_tree}
 use Rattle.mat_model.specs.declared.book.Book.{Book}
@@ -17,7 +16,7 @@ use Rattle.mat_model.specs.Gate.{Served, is_live}
 use Rattle.mat_model.specs.Rows.{covers, is_at_path, is_clear_of, overlaps_row, put_row}
 use Rattle.mat_model.specs.Declarations.{declare, declare_row, is_equal_row, new_row, replace_rows, write}
 use Rattle.mat_model.specs.Tickets.{is_open, left_ticket, with_answer, with_hold}
-use Rattle.mat_model.proofs.Tests.{and_true_parts, filter_none, filter_all, find_none}
+use Rattle.mat_model.proofs.ListTests.{and_true_parts, filter_none, filter_all, find_none}
 
 -- a row at a path overlaps it
 pub at_path_overlaps : (path : List (List ℕ)) (row : Row) → is_at_path path row ≡ true → overlaps_row path row ≡ true

@@ -1,11 +1,8 @@
 -- A work state in which no job runs and nothing is debris: what comes first, and what a request leaves of it.
-use Rattle.std.proofs.Common.{◌≡◌, ℕ, ◌==◌, Bool, true, false, not, ◌&&◌, ◌||◌, List, [], ◌∷◌, Option, Some, None, cond, inl, inr, refl, sym, ap, ap₂, subst, ◌∙◌, Contains, find, filter, arith}
-use Rattle.std.specs.List.{list_all, list_any}
+use Rattle.std.proofs.Common.{◌≡◌, ℕ, ◌==◌, Bool, true, false, not, ◌||◌, List, [], ◌∷◌, Option, Some, None, cond, inl, inr, refl, sym, ap, ap₂, ◌∙◌, Contains, find, filter, arith}
+use Rattle.std.specs.List.{list_any}
 use Rattle.std.specs.Option.{option_and_then, option_map, option_map_or, option_or}
-use Rattle.std.proofs.lemmas.Bool.{and_from}
 use Rattle.std.proofs.lemmas.Bool.Decides.{nat_tests}
-use Rattle.mat_model.specs.declared.answers.Reply.{Reply}
-use Rattle.mat_model.specs.declared.answers.Reply.TheVariants as reply
 use Rattle.mat_model.specs.declared.book.Book.{Book}
 use Rattle.mat_model.specs.declared.book.Row.{Row}
 use Rattle.mat_model.specs.declared.book.Ticket.{Ticket}
@@ -13,11 +10,11 @@ use Rattle.mat_model.specs.declared.entries.Task.{Task}
 use Rattle.mat_model.specs.declared.entries.Task.TheVariants as task
 use Rattle.mat_model.specs.Rows.{cover}
 use Rattle.mat_model.specs.Tickets.{is_open}
-use Rattle.mat_model.specs.Yard.{Debris, Job, Lent, Yard, first_make, first_task, first_wipe, has_stamp, idle_yard, is_debris_above, is_gone, is_kept_back, is_lent, is_lent_part, lent_by, make_of, may_wipe, removed_rows, task_of, way_of, wipe_of}
+use Rattle.mat_model.specs.Yard.{Debris, Job, Lent, Yard, first_make, first_task, has_stamp, idle_yard, is_debris_above, is_gone, is_kept_back, is_lent, is_lent_part, lent_by, make_of, may_wipe, removed_rows, task_of, way_of, wipe_of}
 use Rattle.mat_model.proofs.Stood.{contains_cases, contains_first, contains_more}
 
 -- nothing is lent where no job runs
-none_lent : (o : Option Lent) → option_map_or (is_lent_part []) o false ≡ false
+pub none_lent : (o : Option Lent) → option_map_or (is_lent_part []) o false ≡ false
 none_lent None = refl
 none_lent (Some lent) = refl
 

@@ -4,14 +4,14 @@ use Rattle.std.specs.List.{list_any, list_all, filter, slice_get}
 use Rattle.std.specs.Option.{is_none, option_map, option_and_then, option_or}
 use Rattle.std.proofs.lemmas.Bool.{both_ways, and_from}
 use Rattle.std.proofs.lemmas.Bool.Decides.{nat_tests}
-use Rattle.std.proofs.lemmas.List.Sums.{sum_by-cons}
+use Rattle.std.proofs.lemmas.List.Sums.{count_by-le-length, length-filter, sum_by-cons}
 use Rattle.std.proofs.lemmas.Option.{slice_get-map}
 use Rattle.mat_path.specs.Names.{is_prefix, overlap, same_name}
 use Rattle.mat_path.proofs.PathLemmas.{same_names-eq}
 use Rattle.mat_tree.specs.declared.flat.Flat.{Flat}
 use Rattle.mat_tree.specs.declared.sum.Sum.{Sum}
 use Rattle.mat_digest.specs.declared.digest.Digest.{Digest}
-use Rattle.mat_tree.specs.Trees.{has_node, file_tree, same_tree, same_bool, same_digest, same_sum}
+use Rattle.mat_tree.specs.Trees.{has_node, file_tree, same_tree, same_bool, same_digest}
 use Rattle.mat_tree.proofs.Paths.{same_name_refl}
 use Rattle.mat_model.specs.declared.answers.Answer.{Answer}
 use Rattle.mat_model.specs.declared.answers.Answer.TheVariants as answer
@@ -32,21 +32,20 @@ use Rattle.mat_model.specs.declared.entries.Task.{Task}
 use Rattle.mat_model.specs.declared.entries.Task.TheVariants as task
 use Rattle.mat_model.specs.declared.requests.Asked.{Asked}
 use Rattle.mat_model.specs.declared.requests.Asked.TheVariants as asked
-use Rattle.mat_model.specs.declared.requests.CleanMode.TheVariants as mode
-use Rattle.mat_model.specs.Gate.{Admitted, Served, admit, admits, admits_front, admitted, departed, is_live, is_other, is_state, is_waiting, state_of}
+use Rattle.mat_model.specs.Gate.{Admitted, admit, admits_front, admitted, departed, is_live, is_other, is_state, one_more, state_of}
 use Rattle.mat_model.specs.Rows.{are_apart, comes_before, cover, covers, is_apart, is_at_path, is_clear_of, overlaps_row, put_row, standing_row, used, used_row}
-use Rattle.mat_model.specs.Declarations.{copy_tree, declare, declare_row, declared_at, is_equal_row, new_row, stands_at_path, write, written_tree}
+use Rattle.mat_model.specs.Declarations.{declare, declare_row, is_equal_row, new_row, write, written_tree}
 use Rattle.mat_model.specs.Tickets.{answered_by, answered_by_any, is_lost, is_open, left_ticket, waits_for, waits_for_any, with_answer}
-use Rattle.mat_model.specs.Requests.{Aside, at_moment, ensure, ensure_row, grant, is_open_of, match_row, serve}
+use Rattle.mat_model.specs.Requests.{Aside, at_moment, ensure, ensure_row, grant, serve}
 use Rattle.mat_model.specs.Work.{end_make, finish, is_declared, refuse, rows_of_task}
 use Rattle.mat_model.specs.Yard.{Yard, first_make, make_of, path_of_task, running, task_of}
 use Rattle.mat_model.specs.History.{Point, after, after_all, answer, answer_done, aside, begin_with, is_store_fault, is_keeper, next_number, recorded_as, refusal_note}
 use Rattle.mat_model.specs.Laws.{AreKept, HasDeclared, IsAnswered, IsGated, IsKept, IsLeftOut, IsReady, StillStands, declares, disturbs, disturbs_by, is_disturbed, is_nobody}
 use Rattle.mat_model.specs.Kept.{may_fail, overlaps_kept}
-use Rattle.mat_model.proofs.Tests.{and_true_parts, false_by, not_true, or_false_parts}
+use Rattle.mat_model.proofs.ListTests.{and_true_parts, false_by, not_true, or_false_parts}
 use Rattle.mat_model.proofs.Apart.{put_row-apart, apart-map}
 use Rattle.mat_model.proofs.Stood.{used-path, used-tree, used-stands, standing-path, found_passes, contains_cases, contains_first, contains_more}
-use Rattle.mat_model.proofs.Serving.{finished_by, served_by}
+use Rattle.mat_model.proofs.Serving.{Changes, asked_by, ended_beside, ended_by, finished_by, served_by}
 use Rattle.mat_model.proofs.Makes.{found_contains, make_of_parts, apart_declared, first_make_found}
 
 -- what an ensure is granted is a row that stands
@@ -149,7 +148,7 @@ contains_map {B = B} f (x ∷ xs) y among =
       | inr more ↦ contains_more (f x) (map f xs) (f y) (contains_map f xs y more)
     ]
 
-contains_filter : {A : Type 0} (p : A → Bool) (xs : List A) (y : A) → p y ≡ true → Contains xs y → Contains (filter p xs) y
+pub contains_filter : {A : Type 0} (p : A → Bool) (xs : List A) (y : A) → p y ≡ true → Contains xs y → Contains (filter p xs) y
 contains_filter p [] y passes (k, within, at) = absurd (omega arith)
 contains_filter {A = A} p (x ∷ xs) y passes among =
     elim (contains_cases x xs y among) [
@@ -313,30 +312,30 @@ finish_apart number task out how book apart =
     })
 
 -- what is true of a book at any moment, after each request, and after the refusal and the end of each job, is true after each event
-record Events (P : Book → Type 0) (point : Point) (moment : ℕ) (what : Event) : Type 0 where
-  same : P point.book
-  later : P (at_moment moment point.book)
-  asks : (number : ℕ) (aside : Aside) (request : Asked) → what ≡ event.Asked request → P (serve number moment aside request point.book).book
-  refuses : (number : ℕ) (begun : Task) (note : FaultNote) → P (refuse number begun note point.book).book
-  ends : (number : ℕ) (task : Task) (out : Outcome) (how : Recorded) → P (finish number task out how point.book).book
+pub record Events (P : Book → Type 0) (point : Point) (moment : ℕ) (what : Event) : Type 0 where
+  pub same : P point.book
+  pub later : P (at_moment moment point.book)
+  pub asks : (request : Asked) → what ≡ event.Asked request → P (serve (next_number point) moment (aside point) request point.book).book
+  pub refuses : (begun : Task) (note : FaultNote) → P (refuse (next_number point) begun note point.book).book
+  pub ends : (task : Task) (out : Outcome) (how : Recorded) → P (finish (next_number point) task out how point.book).book
 
-after_event : (P : Book → Type 0) (point : Point) (moment : ℕ) (what : Event) (said : Reply) → Events P point moment what →
+pub after_event : (P : Book → Type 0) (point : Point) (moment : ℕ) (what : Event) (said : Reply) → Events P point moment what →
     P (answer point moment what said).book
 after_event P point moment (event.Asked request) said events =
     elim (may_fail request point.book point.kept && is_store_fault said) as
     (λ b. P (cond b (record { reply = said; book = at_moment moment point.book }) (serve (next_number point) moment (aside point) request point.book)).book)
-    [ true ↦ events.later | false ↦ events.asks (next_number point) (aside point) request refl ]
+    [ true ↦ events.later | false ↦ events.asks request refl ]
 after_event P point moment (event.Begin begun) said events =
     elim (refusal_note said) as (λ o. P (begin_with point begun o).book) [
       | None ↦ events.same
       | Some note ↦
           elim (is_keeper note.device && list_any (overlaps_kept (path_of_task begun)) point.kept) as
           (λ b. P (cond b (refuse (next_number point) begun note point.book) (record { reply = reply.Started; book = point.book })).book)
-          [ true ↦ events.refuses (next_number point) begun note | false ↦ events.same ]
+          [ true ↦ events.refuses begun note | false ↦ events.same ]
     ]
 after_event P point moment (event.Done job out) said events =
     elim (running job point.yard) as (λ o. P (answer_done point out said o).book)
-    [ None ↦ events.same | Some ran ↦ events.ends (next_number point) ran.task out (recorded_as said) ]
+    [ None ↦ events.same | Some ran ↦ events.ends ran.task out (recorded_as said) ]
 
 -- tickets that are kept twice are kept
 kept_trans : (first second third : Ticket) → IsKept first second → IsKept second third → IsKept first third
@@ -361,11 +360,11 @@ history_kept point (entry ∷ later) =
     (after_event (λ (b : Book). AreKept point.book.tickets b.tickets) point entry.now entry.event entry.reply (record {
       same = kept_same point.book.tickets;
       later = kept_same point.book.tickets;
-      asks = λ number aside request is. serve_kept number entry.now aside request point.book;
-      refuses = λ number begun note.
-          kept_map (answered_by_any (rows_of_task begun point.book.rows) number (answer.Fault note))
-          (kept_answered_any (rows_of_task begun point.book.rows) number (answer.Fault note)) point.book.tickets;
-      ends = λ number task out how. finish_kept number task out how point.book;
+      asks = λ request is. serve_kept (next_number point) entry.now (aside point) request point.book;
+      refuses = λ begun note.
+          kept_map (answered_by_any (rows_of_task begun point.book.rows) (next_number point) (answer.Fault note))
+          (kept_answered_any (rows_of_task begun point.book.rows) (next_number point) (answer.Fault note)) point.book.tickets;
+      ends = λ task out how. finish_kept (next_number point) task out how point.book;
     }))
     (history_kept (after point entry) later)
 
@@ -392,9 +391,9 @@ history_apart point (entry ∷ later) apart =
     (after_event (λ (b : Book). are_apart b.rows ≡ true) point entry.now entry.event entry.reply (record {
       same = apart;
       later = apart;
-      asks = λ number aside request is. serve_apart number entry.now aside request point.book apart;
-      refuses = λ number begun note. apart;
-      ends = λ number task out how. finish_apart number task out how point.book apart;
+      asks = λ request is. serve_apart (next_number point) entry.now (aside point) request point.book apart;
+      refuses = λ begun note. apart;
+      ends = λ task out how. finish_apart (next_number point) task out how point.book apart;
     }))
 
 -- a row at the same path is disturbed by the same entries
@@ -431,11 +430,11 @@ history_stands point (entry ∷ later) row among stands calm =
     after_event (λ (b : Book). StillStands row b.rows) point entry.now entry.event entry.reply (record {
       same = (row, among, stands, refl, refl, refl, refl);
       later = (row, among, stands, refl, refl, refl, refl);
-      asks = λ number aside request is.
-          serve_stands number entry.now aside request point.book row among stands
+      asks = λ request is.
+          serve_stands (next_number point) entry.now (aside point) request point.book row among stands
           (subst (λ (what : Event). disturbs_by what row ≡ false) is parts.0);
-      refuses = λ number begun note. (row, among, stands, refl, refl, refl, refl);
-      ends = λ number task out how. finish_stands number task out how point.book row among stands;
+      refuses = λ begun note. (row, among, stands, refl, refl, refl, refl);
+      ends = λ task out how. finish_stands (next_number point) task out how point.book row among stands;
     }) in
     let more = history_stands (after point entry) later here.0 here.1 here.2
     (none_disturbs row here.0 here.3 later ∙ parts.1) in
@@ -688,14 +687,9 @@ write_declared number command path sum book live =
           )
     ] refl)
 
--- a property of the book that is left
-either_book : (P : Book → Type 0) (b : Bool) (first second : Served) → P first.book → P second.book → P (cond b first second).book
-either_book P true first second one other = one
-either_book P false first second one other = other
-
 -- one more command is live where fewer than 64 are
-one_more : (live : List ℕ) (command : ℕ) → nat_lt (length live) 64 ≡ true → length (live ++ command ∷ []) ≤ 64
-one_more live command few =
+one_more_live : (live : List ℕ) (command : ℕ) → nat_lt (length live) 64 ≡ true → length (live ++ command ∷ []) ≤ 64
+one_more_live live command few =
     let more : length live < 64 = grind (arith, nat_tests, few) in
     subst (λ (n : ℕ). n ≤ 64) (sym (length-append live (command ∷ []))) (omega (arith, more))
 
@@ -703,22 +697,9 @@ somebody : (live : List ℕ) (command : ℕ) → false ≡ is_nobody (live ++ co
 somebody [] command = refl
 somebody (other ∷ live) command = refl
 
--- a command that comes is live, or waits
-abbrev entered : ℕ → ℕ → Book → Served
-entered command state book = record { reply = reply.Entered; book = record book { live = book.live ++ command ∷ []; state = Some state } }
-
-abbrev queued : ℕ → ℕ → Book → Served
-queued command state book = record {
-  reply = reply.Queued (length book.waiting + 1);
-  book = record book { waiting = book.waiting ++ record { command = command; state = state } ∷ [] };
-}
-
 -- who goes leaves the gate sound
-filter_le : (p : ℕ → Bool) (xs : List ℕ) → length (filter p xs) ≤ length xs
-filter_le p [] = omega arith
-filter_le p (x ∷ xs) =
-    let more : length (filter p xs) ≤ length xs = filter_le p xs in
-    elim (p x) as (λ b. length (cond b (x ∷ filter p xs) (filter p xs)) ≤ suc (length xs)) [ true ↦ omega (arith, more) | false ↦ omega (arith, more) ]
+pub filter_le : {A : Type 0} (p : A → Bool) (xs : List A) → length (filter p xs) ≤ length xs
+filter_le p xs = subst (λ (n : ℕ). n ≤ length xs) (sym (length-filter p xs)) (count_by-le-length p xs)
 
 nobody_else : (p : ℕ → Bool) (live : List ℕ) (state : Option ℕ) → is_none state ≡ is_nobody live →
     is_none (state_of (filter p live) state) ≡ is_nobody (filter p live)
@@ -744,91 +725,40 @@ admit_gated [] book gated = gated
 admit_gated (waiter ∷ waiters) book gated =
     elim (admits_front waiter book) as
     (λ b. admits_front waiter book ≡ b →
-    IsGated (cond {A = Admitted} b (record { count = (admit waiters (admitted waiter book)).count + 1; book = (admit waiters (admitted waiter book)).book })
+    IsGated (cond {A = Admitted} b (one_more (admit waiters (admitted waiter book)))
     (record { count = 0; book = record book { waiting = waiter ∷ waiters } })).book) [
       | true ↦ λ may. admit_gated waiters (admitted waiter book) (
-        one_more book.live waiter.command (and_true_parts (nat_lt (length book.live) 64) (is_state waiter.state book.state) may).0,
+        one_more_live book.live waiter.command (and_true_parts (nat_lt (length book.live) 64) (is_state waiter.state book.state) may).0,
         somebody book.live waiter.command,
       )
       | false ↦ λ may. gated
     ] refl
 
-declare_gated : (number command : ℕ) (path : List (List ℕ)) (tree : List Flat) (book : Book) → IsGated book → IsGated (declare number command path tree book).book
-declare_gated number command path tree book gated =
-    elim (find (is_equal_row path tree) book.rows) as (λ o. IsGated (declare_row number command path tree book o).book)
-    [ None ↦ gated | Some row ↦ gated ]
-
 -- a request, the end of a job and a history keep the gate sound
+asked_gated : (number : ℕ) (request : Asked) (book : Book) → IsGated book → Changes IsGated number request book
+asked_gated number request book gated = record {
+  same = gated;
+  enters = λ command state is new may. (
+    one_more_live book.live command
+        (and_true_parts (length book.waiting == 0) (nat_lt (length book.live) 64)
+        (and_true_parts ((length book.waiting == 0) && nat_lt (length book.live) 64) (is_state state book.state) may).0).1,
+    somebody book.live command,
+  );
+  queues = λ command state is new may. gated;
+  leaves = λ command is none. admit_gated (departed command book).waiting (departed command book) (departed_gated command book gated);
+  puts = λ command path tree is. gated;
+  uses = λ at command path. gated;
+  asks = λ row command path live over lies. gated;
+  removes = λ gone left opposite disturbed. gated;
+}
+
 pub serve_gated : (number moment : ℕ) (aside : Aside) (request : Asked) (book : Book) → IsGated book → IsGated (serve number moment aside request book).book
-serve_gated number moment aside (asked.Enter command state) book gated =
-    either_book IsGated (is_live command (at_moment moment book) || is_waiting command (at_moment moment book)) _ _ gated
-    (elim (admits state (at_moment moment book)) as
-    (λ b. admits state (at_moment moment book) ≡ b →
-    IsGated (cond b (entered command state (at_moment moment book)) (queued command state (at_moment moment book))).book) [
-      | true ↦ λ admitted. (
-        one_more book.live command
-            (and_true_parts (length book.waiting == 0) (nat_lt (length book.live) 64)
-            (and_true_parts ((length book.waiting == 0) && nat_lt (length book.live) 64) (is_state state book.state) admitted).0).1,
-        somebody book.live command,
-      )
-      | false ↦ λ waits. gated
-    ] refl)
-serve_gated number moment aside (asked.Leave command) book gated =
-    either_book IsGated (is_live command (at_moment moment book) || is_waiting command (at_moment moment book)) _ _
-    (either_book IsGated (count_by (is_open_of command) book.tickets == 0) _ _
-    (admit_gated (departed command (at_moment moment book)).waiting (departed command (at_moment moment book))
-    (departed_gated command (at_moment moment book) gated)) gated)
-    gated
-serve_gated number moment aside (asked.Write command path sum) book gated =
-    either_book IsGated (is_live command (at_moment moment book)) _ _
-    (declare_gated number command path (written_tree sum) (at_moment moment book) gated) gated
-serve_gated number moment aside (asked.Declare command path tree) book gated =
-    either_book IsGated (is_live command (at_moment moment book)) _ _
-    (declare_gated number command path tree (at_moment moment book) gated) gated
-serve_gated number moment aside (asked.Copy command path source) book gated =
-    either_book IsGated (is_live command (at_moment moment book)) _ _
-    (elim (declared_at book.rows source) as (λ o. IsGated (copy_tree number command path (at_moment moment book) o).book) [
-      | None ↦ gated
-      | Some tree ↦ either_book IsGated (list_all (stands_at_path path) tree) _ _
-          (declare_gated number command path tree (at_moment moment book) gated) gated
-    ]) gated
-serve_gated number moment aside (asked.Matches command path sum) book gated =
-    either_book IsGated (is_live command (at_moment moment book)) _ _
-    (elim (find (is_at_path path) book.rows) as (λ o. IsGated (match_row command path sum (at_moment moment book) o).book)
-    [ None ↦ gated | Some row ↦ either_book IsGated (same_sum row.sum sum) _ _ gated gated ]) gated
-serve_gated number moment aside (asked.Has command path) book gated =
-    either_book IsGated (is_live command (at_moment moment book)) _ _ gated gated
-serve_gated number moment aside (asked.Ensure command path) book gated =
-    either_book IsGated (is_live command (at_moment moment book)) _ _
-    (elim (cover book.rows path) as (λ o. IsGated (ensure_row number command path (at_moment moment book) o).book)
-    [ None ↦ gated | Some row ↦ either_book IsGated row.stands _ _ gated gated ])
-    gated
-serve_gated number moment aside (asked.Invalidate command path) book gated =
-    either_book IsGated (is_live command (at_moment moment book)) _ _ gated gated
-serve_gated number moment aside (asked.Clean cutoff mode.Real) book gated = gated
-serve_gated number moment aside (asked.Clean cutoff mode.Dry) book gated = gated
-serve_gated number moment aside (asked.Clean cutoff mode.All) book gated = gated
-serve_gated number moment aside asked.Flush book gated = gated
+serve_gated number moment aside request book gated =
+    asked_by IsGated number aside request (at_moment moment book) (asked_gated number request (at_moment moment book) gated)
 
-make_gated : (number : ℕ) (path : List (List ℕ)) (out : Outcome) (how : Recorded) (book : Book) → IsGated book → (o : Option Row) →
-    IsGated (end_make number path out how book o).book
-make_gated number path out how book gated None = gated
-make_gated number path outcome.Made how book gated (Some row) = gated
-make_gated number path outcome.Wiped how book gated (Some row) = gated
-make_gated number path (outcome.Missing digest) how book gated (Some row) = gated
-make_gated number path (outcome.Corrupt wanted found) how book gated (Some row) = gated
-make_gated number path (outcome.Fault note) how book gated (Some row) = gated
-make_gated number path outcome.NoMemory how book gated (Some row) = gated
-
-finish_gated : (number : ℕ) (task : Task) (out : Outcome) (how : Recorded) (book : Book) → IsGated book → IsGated (finish number task out how book).book
-finish_gated number (task.Make path stamp) out how book gated =
-    make_gated number path out how book gated (find (is_declared path stamp) book.rows)
-finish_gated number (task.Wipe path) outcome.Made how book gated = gated
-finish_gated number (task.Wipe path) outcome.Wiped how book gated = gated
-finish_gated number (task.Wipe path) (outcome.Missing digest) how book gated = gated
-finish_gated number (task.Wipe path) (outcome.Corrupt wanted found) how book gated = gated
-finish_gated number (task.Wipe path) (outcome.Fault note) how book gated = gated
-finish_gated number (task.Wipe path) outcome.NoMemory how book gated = gated
+pub finish_gated : (number : ℕ) (task : Task) (out : Outcome) (how : Recorded) (book : Book) → IsGated book → IsGated (finish number task out how book).book
+finish_gated number task out how book gated =
+    ended_by IsGated number task out how book (ended_beside IsGated number book (λ rows tickets. gated))
 
 pub history_gated : (point : Point) (later : List Entry) → IsGated point.book → IsGated (after_all point later).book
 history_gated point [] gated = gated
@@ -837,7 +767,7 @@ history_gated point (entry ∷ later) gated =
     (after_event IsGated point entry.now entry.event entry.reply (record {
       same = gated;
       later = gated;
-      asks = λ number aside request is. serve_gated number entry.now aside request point.book gated;
-      refuses = λ number begun note. gated;
-      ends = λ number task out how. finish_gated number task out how point.book gated;
+      asks = λ request is. serve_gated (next_number point) entry.now (aside point) request point.book gated;
+      refuses = λ begun note. gated;
+      ends = λ task out how. finish_gated (next_number point) task out how point.book gated;
     }))

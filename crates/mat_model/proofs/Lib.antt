@@ -1,4 +1,4 @@
-pub mod Tests
+pub mod ListTests
 pub mod Clear
 pub mod Apart
 pub mod Stood
@@ -7,3 +7,11 @@ pub mod LegalLemmas
 pub mod Serving
 pub mod LawLemmas
 pub mod Idle
+pub mod BooksLists
+pub mod BooksRows
+pub mod BooksGate
+pub mod BooksTickets
+pub mod BooksCovered
+pub mod BooksKept
+pub mod BooksRoom
+pub mod BooksWork

@@ -1,13 +1,13 @@
--- What a request, the begin and the end of a job leave of the rows and the tickets, case by case.
-use Rattle.std.proofs.Common.{◌≡◌, ℕ, ◌+◌, ◌==◌, Bool, true, false, not, ◌&&◌, ◌||◌, List, [], ◌∷◌, ◌++◌, Option, Some, None, cond, refl, map, find, count_by}
+-- What a request, the begin and the end of a job leave of a book, case by case, and of its rows and its tickets alone.
+use Rattle.std.proofs.Common.{◌≡◌, ℕ, ◌==◌, Bool, true, false, not, ◌||◌, List, [], ◌∷◌, ◌++◌, Option, Some, None, cond, refl, sym, subst, map, find, count_by}
 use Rattle.std.specs.List.{list_all, filter}
 use Rattle.mat_tree.specs.declared.flat.Flat.{Flat}
-use Rattle.mat_tree.specs.declared.sum.Sum.{Sum}
 use Rattle.mat_tree.specs.Trees.{same_sum}
 use Rattle.mat_model.specs.declared.answers.Answer.{Answer}
 use Rattle.mat_model.specs.declared.answers.Answer.TheVariants as answer
 use Rattle.mat_model.specs.declared.answers.Recorded.{Recorded}
 use Rattle.mat_model.specs.declared.book.Book.{Book}
+use Rattle.mat_model.specs.declared.book.Hold.{Hold}
 use Rattle.mat_model.specs.declared.book.Row.{Row}
 use Rattle.mat_model.specs.declared.book.Ticket.{Ticket}
 use Rattle.mat_model.specs.declared.book.Waiter.{Waiter}
@@ -19,22 +19,185 @@ use Rattle.mat_model.specs.declared.requests.Asked.{Asked}
 use Rattle.mat_model.specs.declared.requests.Asked.TheVariants as asked
 use Rattle.mat_model.specs.declared.requests.CleanMode.TheVariants as mode
 use Rattle.mat_model.specs.Cleaning.{is_not_stale, is_stale}
-use Rattle.mat_model.specs.Declarations.{copy_tree, declare_row, declared_at, is_equal_row, new_row, stands_at_path, written_tree}
-use Rattle.mat_model.specs.Gate.{Admitted, Served, admit, admits, admits_front, admitted, departed, is_live, is_waiting}
+use Rattle.mat_model.specs.Declarations.{copy_tree, declare_row, declared_at, is_equal_row, new_row, replace_rows, stands_at_path, written_tree}
+use Rattle.mat_model.specs.Gate.{Admitted, Served, admit, admits, admits_front, admitted, depart, departed, is_live, is_waiting, one_more}
 use Rattle.mat_model.specs.Laws.{declares, disturbs}
-use Rattle.mat_model.specs.Requests.{Aside, at_moment, ensure_row, is_open_of, match_row, serve}
+use Rattle.mat_model.specs.Requests.{Aside, at_moment, ensure_row, is_hold_of_other, is_open_of, match_row, serve, serve_now}
 use Rattle.mat_model.specs.Rows.{cover, is_at_path, is_clear_of, overlaps_row, put_row, standing_row, used}
-use Rattle.mat_model.specs.Tickets.{answered_by, answered_by_any, left_ticket}
-use Rattle.mat_model.specs.Work.{end_make, finish, is_declared}
+use Rattle.mat_model.specs.Tickets.{answered_by, answered_by_any, left_ticket, with_hold, without_rows}
+use Rattle.mat_model.specs.Work.{end_make, finish, is_declared, make_ended, with_answers}
+
+-- a property of the book that is left, where it may be one of two
+pub either_book : (P : Book → Type 0) (b : Bool) (first second : Served) → (b ≡ true → P first.book) → (b ≡ false → P second.book) →
+    P (cond b first second).book
+either_book P true first second one other = one refl
+either_book P false first second one other = other refl
+
+-- the gate of one book in another
+abbrev pub with_gate : Book → Book → Book
+with_gate gate book = record book { live = gate.live; state = gate.state; waiting = gate.waiting }
+
+-- a row at a path is used, and a command holds a path
+abbrev pub used_at : List (List ℕ) → ℕ → List (List ℕ) → Book → Book
+used_at at command path book = record book { rows = used at book.now book.rows; holds = with_hold command path book.holds }
+
+-- one more ticket
+abbrev pub with_ticket : ℕ → ℕ → List (List ℕ) → Book → Book
+with_ticket number command path book =
+    record book { tickets = book.tickets ++ record { number = number; command = command; asked = path; answered = None } ∷ [] }
+
+-- a property of the book after a request, case by case: the book is left alone, a new command is live or waits, a command goes, a row is put in the
+-- place of those that overlap its path, a row is used, a ticket comes to a covering row that doesn't stand and is used, and rows that pass a test
+-- are removed
+pub record Changes (P : Book → Type 0) (number : ℕ) (request : Asked) (book : Book) : Type 0 where
+  pub same : P book
+  pub enters : (command state : ℕ) → request ≡ asked.Enter command state → is_live command book || is_waiting command book ≡ false →
+      admits state book ≡ true → P (record book { live = book.live ++ command ∷ []; state = Some state })
+  pub queues : (command state : ℕ) → request ≡ asked.Enter command state → is_live command book || is_waiting command book ≡ false →
+      admits state book ≡ false → P (record book { waiting = book.waiting ++ record { command = command; state = state } ∷ [] })
+  pub leaves : (command : ℕ) → request ≡ asked.Leave command → (count_by (is_open_of command) book.tickets == 0) ≡ true →
+      P (record (with_gate (depart command book).book book) { holds = filter (is_hold_of_other command) book.holds })
+  pub puts : (command : ℕ) (path : List (List ℕ)) (tree : List Flat) → declares request ≡ Some path →
+      P (replace_rows number command path (new_row number book.now path tree) book).book
+  pub uses : (at : List (List ℕ)) (command : ℕ) (path : List (List ℕ)) → P (used_at at command path book)
+  pub asks : (row : Row) (command : ℕ) (path : List (List ℕ)) → is_live command book ≡ true → cover book.rows path ≡ Some row → row.stands ≡ false →
+      P (with_ticket number command path (used_at row.path command path book))
+  pub removes : (gone left : Row → Bool) → ((row : Row) → left row ≡ not (gone row)) → ((row : Row) → gone row ≡ true → disturbs request row ≡ true) →
+      P (without_rows number (filter gone book.rows) (filter left book.rows) book)
+
+-- who is admitted changes the gate alone
+pub admitted_gate : (waiters : List Waiter) (book : Book) → (admit waiters book).book ≡ with_gate (admit waiters book).book book
+admitted_gate [] book = refl
+admitted_gate (waiter ∷ waiters) book =
+    elim (admits_front waiter book) as
+    (λ b. (cond {A = Admitted} b (one_more (admit waiters (admitted waiter book)))
+    (record { count = 0; book = record book { waiting = waiter ∷ waiters } })).book
+    ≡ with_gate (cond {A = Admitted} b (one_more (admit waiters (admitted waiter book)))
+    (record { count = 0; book = record book { waiting = waiter ∷ waiters } })).book book) [
+      | true ↦ admitted_gate waiters (admitted waiter book)
+      | false ↦ refl
+    ]
+
+declared_by : (P : Book → Type 0) (number : ℕ) (request : Asked) (command : ℕ) (path : List (List ℕ)) (tree : List Flat) (book : Book) →
+    Changes P number request book → declares request ≡ Some path → (o : Option Row) → P (declare_row number command path tree book o).book
+declared_by P number request command path tree book changes is None = changes.puts command path tree is
+declared_by P number request command path tree book changes is (Some row) = changes.uses path command path
+
+-- what is true in each case is true after a request
+pub asked_by : (P : Book → Type 0) (number : ℕ) (aside : Aside) (request : Asked) (book : Book) → Changes P number request book →
+    P (serve_now number aside request book).book
+asked_by P number aside (asked.Enter command state) book changes =
+    either_book P (is_live command book || is_waiting command book) _ _ (λ known. changes.same)
+    (λ new. either_book P (admits state book) _ _ (changes.enters command state refl new) (changes.queues command state refl new))
+asked_by P number aside (asked.Leave command) book changes =
+    either_book P (is_live command book || is_waiting command book) _ _
+    (λ known. either_book P (count_by (is_open_of command) book.tickets == 0) _ _
+    (λ none. subst (λ (b : Book). P (record b { holds = filter (is_hold_of_other command) book.holds }))
+    (sym (admitted_gate (departed command book).waiting (departed command book))) (changes.leaves command refl none))
+    (λ busy. changes.same))
+    (λ new. changes.same)
+asked_by P number aside (asked.Write command path sum) book changes =
+    either_book P (is_live command book) _ _
+    (λ live. declared_by P number (asked.Write command path sum) command path (written_tree sum) book changes refl
+    (find (is_equal_row path (written_tree sum)) book.rows))
+    (λ dead. changes.same)
+asked_by P number aside (asked.Declare command path tree) book changes =
+    either_book P (is_live command book) _ _
+    (λ live. declared_by P number (asked.Declare command path tree) command path tree book changes refl (find (is_equal_row path tree) book.rows))
+    (λ dead. changes.same)
+asked_by P number aside (asked.Copy command path source) book changes =
+    either_book P (is_live command book) _ _ (λ live. copied (declared_at book.rows source)) (λ dead. changes.same)
+  where
+    copied : (o : Option (List Flat)) → P (copy_tree number command path book o).book
+    copied None = changes.same
+    copied (Some tree) =
+        either_book P (list_all (stands_at_path path) tree) _ _
+        (λ short. declared_by P number (asked.Copy command path source) command path tree book changes refl (find (is_equal_row path tree) book.rows))
+        (λ long. changes.same)
+asked_by P number aside (asked.Matches command path sum) book changes =
+    either_book P (is_live command book) _ _ (λ live. matched (find (is_at_path path) book.rows)) (λ dead. changes.same)
+  where
+    matched : (o : Option Row) → P (match_row command path sum book o).book
+    matched None = changes.same
+    matched (Some row) = either_book P (same_sum row.sum sum) _ _ (λ same. changes.uses path command path) (λ other. changes.same)
+asked_by P number aside (asked.Has command path) book changes =
+    either_book P (is_live command book) _ _ (λ live. changes.same) (λ dead. changes.same)
+asked_by P number aside (asked.Ensure command path) book changes =
+    either_book P (is_live command book) _ _ (λ live. ensured live (cover book.rows path) refl) (λ dead. changes.same)
+  where
+    ensured : is_live command book ≡ true → (o : Option Row) → cover book.rows path ≡ o → P (ensure_row number command path book o).book
+    ensured live None over = changes.same
+    ensured live (Some row) over =
+        either_book P row.stands _ _ (λ stands. changes.uses row.path command path) (λ lies. changes.asks row command path live over lies)
+asked_by P number aside (asked.Invalidate command path) book changes =
+    either_book P (is_live command book) _ _
+    (λ live. changes.removes (overlaps_row path) (is_clear_of path) (λ row. refl) (λ row is. is))
+    (λ dead. changes.same)
+asked_by P number aside (asked.Clean cutoff mode.Real) book changes =
+    changes.removes (is_stale cutoff book.holds) (is_not_stale cutoff book.holds) (λ row. refl) (λ row is. refl)
+asked_by P number aside (asked.Clean cutoff mode.Dry) book changes = changes.same
+asked_by P number aside (asked.Clean cutoff mode.All) book changes =
+    changes.removes (is_stale cutoff book.holds) (is_not_stale cutoff book.holds) (λ row. refl) (λ row is. refl)
+asked_by P number aside asked.Flush book changes = changes.same
+
+-- what is true whatever the gate, the rows, the holds and the tickets are is true after a request
+pub asked_beside : (P : Book → Type 0) (number : ℕ) (request : Asked) (book : Book) →
+    ((state : Option ℕ) (live : List ℕ) (waiting : List Waiter) (rows : List Row) (holds : List Hold) (tickets : List Ticket) →
+    P (record book { state = state; live = live; waiting = waiting; rows = rows; holds = holds; tickets = tickets })) →
+    Changes P number request book
+asked_beside P number request book each = record {
+  same = each _ _ _ book.rows book.holds book.tickets;
+  enters = λ command state is new may. each _ _ _ book.rows book.holds book.tickets;
+  queues = λ command state is new may. each _ _ _ book.rows book.holds book.tickets;
+  leaves = λ command is none. each _ _ _ book.rows _ book.tickets;
+  puts = λ command path tree is. each _ _ _ _ _ _;
+  uses = λ at command path. each _ _ _ _ _ book.tickets;
+  asks = λ row command path live over lies. each _ _ _ _ _ _;
+  removes = λ gone left opposite disturbed. each _ _ _ _ _ _;
+}
+
+-- a property of the book after the end of a job, or after its begin was refused: the book is left alone, a row comes to stand and the tickets on it
+-- are answered, or the tickets on some rows are answered with a failure
+pub record Endings (P : Book → Type 0) (number : ℕ) (book : Book) : Type 0 where
+  pub same : P book
+  pub stands : (path : List (List ℕ)) (stamp : ℕ) (row : Row) → find (is_declared path stamp) book.rows ≡ Some row →
+      P (make_ended number path row outcome.Made book)
+  pub fails : (some : List Row) (given : Answer) → P (with_answers some number given book)
+
+made_by : (P : Book → Type 0) (number : ℕ) (path : List (List ℕ)) (stamp : ℕ) (out : Outcome) (how : Recorded) (book : Book) →
+    Endings P number book → (o : Option Row) → find (is_declared path stamp) book.rows ≡ o → P (end_make number path out how book o).book
+made_by P number path stamp out how book endings None found = endings.same
+made_by P number path stamp outcome.Made how book endings (Some row) found = endings.stands path stamp row found
+made_by P number path stamp outcome.Wiped how book endings (Some row) found = endings.same
+made_by P number path stamp (outcome.Missing digest) how book endings (Some row) found = endings.fails (row ∷ []) (answer.Missing digest)
+made_by P number path stamp (outcome.Corrupt wanted other) how book endings (Some row) found =
+    endings.fails (row ∷ []) (answer.Corrupt wanted other)
+made_by P number path stamp (outcome.Fault note) how book endings (Some row) found = endings.fails (row ∷ []) (answer.Fault note)
+made_by P number path stamp outcome.NoMemory how book endings (Some row) found = endings.fails (row ∷ []) answer.NoMemory
+
+pub ended_by : (P : Book → Type 0) (number : ℕ) (task : Task) (out : Outcome) (how : Recorded) (book : Book) → Endings P number book →
+    P (finish number task out how book).book
+ended_by P number (task.Make path stamp) out how book endings =
+    made_by P number path stamp out how book endings (find (is_declared path stamp) book.rows) refl
+ended_by P number (task.Wipe path) outcome.Made how book endings = endings.same
+ended_by P number (task.Wipe path) outcome.Wiped how book endings = endings.same
+ended_by P number (task.Wipe path) (outcome.Missing digest) how book endings = endings.same
+ended_by P number (task.Wipe path) (outcome.Corrupt wanted found) how book endings = endings.same
+ended_by P number (task.Wipe path) (outcome.Fault note) how book endings = endings.fails (filter (overlaps_row path) book.rows) (answer.Fault note)
+ended_by P number (task.Wipe path) outcome.NoMemory how book endings = endings.fails (filter (overlaps_row path) book.rows) answer.NoMemory
+
+-- what is true whatever the rows and the tickets are is true after the end of a job
+pub ended_beside : (P : Book → Type 0) (number : ℕ) (book : Book) →
+    ((rows : List Row) (tickets : List Ticket) → P (record book { rows = rows; tickets = tickets })) → Endings P number book
+ended_beside P number book each = record {
+  same = each book.rows book.tickets;
+  stands = λ path stamp row found. each _ _;
+  fails = λ some given. each book.rows _;
+}
 
 -- a property of the rows and the tickets that are left
 abbrev pub Leaves : (List Row → List Ticket → Type 0) → Served → Type 0
 Leaves R served = R served.book.rows served.book.tickets
-
-pub leaves_either : (R : List Row → List Ticket → Type 0) (b : Bool) (first second : Served) → Leaves R first → Leaves R second →
-    Leaves R (cond b first second)
-leaves_either R true first second one other = one
-leaves_either R false first second one other = other
 
 -- the tickets after a row was put in the place of those that overlap a path
 abbrev pub left_tickets : ℕ → List (List ℕ) → Row → List Row → List Ticket → List Ticket
@@ -52,97 +215,20 @@ pub record Cases (R : List Row → List Ticket → Type 0) (number : ℕ) (reque
   pub removes : (gone left : Row → Bool) → ((row : Row) → left row ≡ not (gone row)) → ((row : Row) → gone row ≡ true → disturbs request row ≡ true) →
       R (filter left rows) (map (left_ticket number (filter gone rows) (filter left rows)) tickets)
 
-declared_by : (R : List Row → List Ticket → Type 0) (number command : ℕ) (path : List (List ℕ)) (tree : List Flat) (book : Book) →
-    ((n : ℕ) → R (used path n book.rows) book.tickets) →
-    ((new : Row) → new.path ≡ path → R (put_row new (filter (is_clear_of path) book.rows)) (left_tickets number path new book.rows book.tickets)) →
-    (o : Option Row) → Leaves R (declare_row number command path tree book o)
-declared_by R number command path tree book uses puts None = puts (new_row number book.now path tree) refl
-declared_by R number command path tree book uses puts (Some row) = uses book.now
-
-ensured_by : (R : List Row → List Ticket → Type 0) (number command : ℕ) (path : List (List ℕ)) (book : Book) →
-    R book.rows book.tickets →
-    ((at : List (List ℕ)) (n : ℕ) (more : List Ticket) → R (used at n book.rows) (book.tickets ++ more)) →
-    ((at : List (List ℕ)) (n : ℕ) → R (used at n book.rows) book.tickets) →
-    (o : Option Row) → Leaves R (ensure_row number command path book o)
-ensured_by R number command path book same asks uses None = same
-ensured_by R number command path book same asks uses (Some row) =
-    leaves_either R row.stands _ _ (uses row.path book.now) (asks row.path book.now _)
-
-copied_by : (R : List Row → List Ticket → Type 0) (number command : ℕ) (path : List (List ℕ)) (book : Book) →
-    R book.rows book.tickets →
-    ((n : ℕ) → R (used path n book.rows) book.tickets) →
-    ((new : Row) → new.path ≡ path → R (put_row new (filter (is_clear_of path) book.rows)) (left_tickets number path new book.rows book.tickets)) →
-    (o : Option (List Flat)) → Leaves R (copy_tree number command path book o)
-copied_by R number command path book same uses puts None = same
-copied_by R number command path book same uses puts (Some tree) =
-    leaves_either R (list_all (stands_at_path path) tree) _ _
-    (declared_by R number command path tree book uses puts (find (is_equal_row path tree) book.rows)) same
-
-matched_by : (R : List Row → List Ticket → Type 0) (command : ℕ) (path : List (List ℕ)) (sum : Sum) (book : Book) →
-    R book.rows book.tickets → R (used path book.now book.rows) book.tickets → (o : Option Row) → Leaves R (match_row command path sum book o)
-matched_by R command path sum book same uses None = same
-matched_by R command path sum book same uses (Some row) = leaves_either R (same_sum row.sum sum) _ _ uses same
-
--- who is admitted changes no row and no ticket
-pub admitted_by : (R : List Row → List Ticket → Type 0) (waiters : List Waiter) (book : Book) → R book.rows book.tickets →
-    R (admit waiters book).book.rows (admit waiters book).book.tickets
-admitted_by R [] book same = same
-admitted_by R (waiter ∷ waiters) book same =
-    elim (admits_front waiter book) as
-    (λ b. R (cond {A = Admitted} b (record { count = (admit waiters (admitted waiter book)).count + 1; book = (admit waiters (admitted waiter book)).book })
-    (record { count = 0; book = record book { waiting = waiter ∷ waiters } })).book.rows
-    (cond {A = Admitted} b (record { count = (admit waiters (admitted waiter book)).count + 1; book = (admit waiters (admitted waiter book)).book })
-    (record { count = 0; book = record book { waiting = waiter ∷ waiters } })).book.tickets) [
-      | true ↦ admitted_by R waiters (admitted waiter book) same
-      | false ↦ same
-    ]
-
 -- what holds in each case holds after a request
 pub served_by : (R : List Row → List Ticket → Type 0) (number moment : ℕ) (aside : Aside) (request : Asked) (book : Book) →
     Cases R number request book.rows book.tickets → Leaves R (serve number moment aside request book)
-served_by R number moment aside (asked.Enter command state) book cases =
-    leaves_either R (is_live command (at_moment moment book) || is_waiting command (at_moment moment book)) _ _ cases.same
-    (leaves_either R (admits state (at_moment moment book)) _ _ cases.same cases.same)
-served_by R number moment aside (asked.Leave command) book cases =
-    leaves_either R (is_live command (at_moment moment book) || is_waiting command (at_moment moment book)) _ _
-    (leaves_either R (count_by (is_open_of command) book.tickets == 0) _ _
-    (admitted_by R (departed command (at_moment moment book)).waiting (departed command (at_moment moment book)) cases.same) cases.same)
-    cases.same
-served_by R number moment aside (asked.Write command path sum) book cases =
-    leaves_either R (is_live command (at_moment moment book)) _ _
-    (declared_by R number command path (written_tree sum) (at_moment moment book) (cases.uses path)
-    (λ new at. cases.puts path new at refl) (find (is_equal_row path (written_tree sum)) book.rows))
-    cases.same
-served_by R number moment aside (asked.Declare command path tree) book cases =
-    leaves_either R (is_live command (at_moment moment book)) _ _
-    (declared_by R number command path tree (at_moment moment book) (cases.uses path)
-    (λ new at. cases.puts path new at refl) (find (is_equal_row path tree) book.rows))
-    cases.same
-served_by R number moment aside (asked.Copy command path source) book cases =
-    leaves_either R (is_live command (at_moment moment book)) _ _
-    (copied_by R number command path (at_moment moment book) cases.same (cases.uses path) (λ new at. cases.puts path new at refl)
-    (declared_at book.rows source))
-    cases.same
-served_by R number moment aside (asked.Matches command path sum) book cases =
-    leaves_either R (is_live command (at_moment moment book)) _ _
-    (matched_by R command path sum (at_moment moment book) cases.same (cases.uses path (at_moment moment book).now) (find (is_at_path path) book.rows))
-    cases.same
-served_by R number moment aside (asked.Has command path) book cases =
-    leaves_either R (is_live command (at_moment moment book)) _ _ cases.same cases.same
-served_by R number moment aside (asked.Ensure command path) book cases =
-    leaves_either R (is_live command (at_moment moment book)) _ _
-    (ensured_by R number command path (at_moment moment book) cases.same cases.asks cases.uses (cover book.rows path))
-    cases.same
-served_by R number moment aside (asked.Invalidate command path) book cases =
-    leaves_either R (is_live command (at_moment moment book)) _ _
-    (cases.removes (overlaps_row path) (is_clear_of path) (λ row. refl) (λ row is. is))
-    cases.same
-served_by R number moment aside (asked.Clean cutoff mode.Real) book cases =
-    cases.removes (is_stale cutoff book.holds) (is_not_stale cutoff book.holds) (λ row. refl) (λ row is. refl)
-served_by R number moment aside (asked.Clean cutoff mode.Dry) book cases = cases.same
-served_by R number moment aside (asked.Clean cutoff mode.All) book cases =
-    cases.removes (is_stale cutoff book.holds) (is_not_stale cutoff book.holds) (λ row. refl) (λ row is. refl)
-served_by R number moment aside asked.Flush book cases = cases.same
+served_by R number moment aside request book cases =
+    asked_by (λ (b : Book). R b.rows b.tickets) number aside request (at_moment moment book) (record {
+      same = cases.same;
+      enters = λ command state is new may. cases.same;
+      queues = λ command state is new may. cases.same;
+      leaves = λ command is none. cases.same;
+      puts = λ command path tree is. cases.puts path (new_row number (at_moment moment book).now path tree) refl is;
+      uses = λ at command path. cases.uses at (at_moment moment book).now;
+      asks = λ row command path live over lies. cases.asks row.path (at_moment moment book).now _;
+      removes = cases.removes;
+    })
 
 -- the rows and the tickets after the end of a job: both are left alone, a row comes to stand and the tickets on it are answered, or the tickets
 -- on some rows are answered with a failure
@@ -152,23 +238,11 @@ pub record Ends (R : List Row → List Ticket → Type 0) (number : ℕ) (rows :
       R (map (standing_row path) rows) (map (answered_by row number (answer.Ready row.stamp row.sum)) tickets)
   pub fails : (some : List Row) (given : Answer) → R rows (map (answered_by_any some number given) tickets)
 
-ended_by : (R : List Row → List Ticket → Type 0) (number : ℕ) (path : List (List ℕ)) (out : Outcome) (how : Recorded) (book : Book) →
-    Ends R number book.rows book.tickets → (o : Option Row) → Leaves R (end_make number path out how book o)
-ended_by R number path out how book ends None = ends.same
-ended_by R number path outcome.Made how book ends (Some row) = ends.stands path row
-ended_by R number path outcome.Wiped how book ends (Some row) = ends.same
-ended_by R number path (outcome.Missing digest) how book ends (Some row) = ends.fails (row ∷ []) (answer.Missing digest)
-ended_by R number path (outcome.Corrupt wanted found) how book ends (Some row) = ends.fails (row ∷ []) (answer.Corrupt wanted found)
-ended_by R number path (outcome.Fault note) how book ends (Some row) = ends.fails (row ∷ []) (answer.Fault note)
-ended_by R number path outcome.NoMemory how book ends (Some row) = ends.fails (row ∷ []) answer.NoMemory
-
 pub finished_by : (R : List Row → List Ticket → Type 0) (number : ℕ) (task : Task) (out : Outcome) (how : Recorded) (book : Book) →
     Ends R number book.rows book.tickets → Leaves R (finish number task out how book)
-finished_by R number (task.Make path stamp) out how book ends =
-    ended_by R number path out how book ends (find (is_declared path stamp) book.rows)
-finished_by R number (task.Wipe path) outcome.Made how book ends = ends.same
-finished_by R number (task.Wipe path) outcome.Wiped how book ends = ends.same
-finished_by R number (task.Wipe path) (outcome.Missing digest) how book ends = ends.same
-finished_by R number (task.Wipe path) (outcome.Corrupt wanted found) how book ends = ends.same
-finished_by R number (task.Wipe path) (outcome.Fault note) how book ends = ends.fails (filter (overlaps_row path) book.rows) (answer.Fault note)
-finished_by R number (task.Wipe path) outcome.NoMemory how book ends = ends.fails (filter (overlaps_row path) book.rows) answer.NoMemory
+finished_by R number task out how book ends =
+    ended_by (λ (b : Book). R b.rows b.tickets) number task out how book (record {
+      same = ends.same;
+      stands = λ path stamp row found. ends.stands path row;
+      fails = ends.fails;
+    })

@@ -13,7 +13,7 @@ use Rattle.mat_tree.specs.Parts.{Part, file, declared_by, Holds, bare, below, re
 use Rattle.mat_model.specs.declared.book.Row.{Row}
 use Rattle.mat_model.specs.Rows.{are_apart, comes_before, is_apart, is_at_path, put_row, standing_row, stands_above, stood_at, used_row, what_there}
 use Rattle.mat_model.specs.Holding.{AreHeld}
-use Rattle.mat_model.proofs.Tests.{and_true_parts}
+use Rattle.mat_model.proofs.ListTests.{and_true_parts}
 use Rattle.mat_model.proofs.Apart.{apart_parts, overlap-refl}
 
 -- a row that fails a test, put in, is no row that the test finds

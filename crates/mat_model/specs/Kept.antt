@@ -1,5 +1,5 @@
 -- What the state store has: the rows that a restart would count as standing.
-use Rattle.std.specs.Prelude.{ℕ, ◌==◌, nat_lt, ◌&&◌, Bool, true, false, not, if◌then◌else◌, List, [], ◌∷◌, length, map, filter, find, Option, Some, None}
+use Rattle.std.specs.Prelude.{ℕ, ◌==◌, nat_lt, ◌&&◌, Bool, false, not, if◌then◌else◌, List, [], ◌∷◌, length, filter}
 use Rattle.std.specs.List.{list_any}
 use Rattle.mat_path.specs.Names.{overlap, same_names}
 use Rattle.mat_tree.specs.declared.flat.Flat.{Flat}
@@ -15,6 +15,7 @@ use Rattle.mat_model.specs.declared.requests.Asked.{Asked}
 use Rattle.mat_model.specs.declared.requests.Asked.TheVariants as asked
 use Rattle.mat_model.specs.declared.requests.CleanMode.TheVariants as mode
 use Rattle.mat_model.specs.Cleaning.{stale}
+use Rattle.mat_model.specs.Gate.{is_live}
 use Rattle.mat_model.specs.Rows.{comes_before, is_at_path, is_standing}
 use Rattle.mat_model.specs.Work.{is_declared}
 use Rattle.mat_model.specs.Yard.{path_of_task}
@@ -76,9 +77,10 @@ due book kept = length (filter (is_due kept) book.rows)
 abbrev pub is_kept_of : List Row → KeptRow → Bool
 is_kept_of rows kept = list_any (is_at_path kept.path) rows
 
--- whether a request has something to remove from the store, or to put into it, so that the store's failure may be its answer
+-- whether a request has something to remove from the store, or to put into it, so that the store's failure may be its answer;
+-- a removal for a command that isn't live has nothing, since it is refused
 abbrev pub may_fail : Asked → Book → List KeptRow → Bool
-may_fail (asked.Invalidate command path) book kept = list_any (overlaps_kept path) kept
+may_fail (asked.Invalidate command path) book kept = list_any (overlaps_kept path) kept && is_live command book
 may_fail (asked.Clean cutoff mode.Real) book kept = list_any (is_kept_of (stale cutoff book)) kept
 may_fail (asked.Clean cutoff mode.All) book kept = list_any (is_kept_of (stale cutoff book)) kept
 may_fail asked.Flush book kept = nat_lt 0 (due book kept)

@@ -12,3 +12,12 @@ pub mod Room
 pub mod Holding
 pub mod Laws
 pub mod Examples
+pub mod Steps
+pub mod ExamplesGate
+pub mod ExamplesClean
+pub mod ExamplesDeclare
+pub mod ExamplesCopies
+pub mod ExamplesStore
+pub mod ExamplesFailure
+pub mod ExamplesRoom
+pub mod Books

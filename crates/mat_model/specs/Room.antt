@@ -1,7 +1,6 @@
 -- Room: which limit a request or a begin would pass.
 use Rattle.std.specs.Prelude.{◌≡◌, ℕ, ◌+◌, nat_lt, ◌&&◌, Bool, true, false, not, if◌then◌else◌, List, length, count_by, filter, Option, Some, None}
 use Rattle.std.specs.List.{list_any, sum_by}
-use Rattle.mat_path.specs.Names.{same_names}
 use Rattle.mat_tree.specs.Trees.{bytes_of}
 use Rattle.mat_model.specs.declared.answers.Limit.{Limit}
 use Rattle.mat_model.specs.declared.answers.Limit.TheVariants as limit

@@ -3,9 +3,17 @@
 
 mod answers;
 mod book;
+mod book_laws;
 mod copies;
 mod entries;
 mod examples;
+pub mod examples_clean;
+pub mod examples_copies;
+pub mod examples_declare;
+pub mod examples_failure;
+pub mod examples_gate;
+pub mod examples_room;
+pub mod examples_store;
 mod laws;
 mod limits;
 mod requests;
@@ -14,6 +22,11 @@ mod tests;
 
 pub use answers::{Answer, Device, FaultNote, Gone, Limit, Recorded, Reply};
 pub use book::{Book, Given, Hold, Row, Ticket, Waiter};
+pub use book_laws::{
+    asker_stays, finish_keeps_rules, front_waits_rightly, history_keeps_rules, idle_keeps_rules,
+    open_ticket_gives_work, open_ticket_waits, opening_keeps_rules, refuse_keeps_rules,
+    room_keeps_queue, serve_keeps_rules, somebody_is_live,
+};
 pub use entries::{Card, Entry, Event, Outcome, Task};
 pub use examples::{
     file_above_replaces, file_below_replaces, first_run_is_legal, first_run_rows, first_run_task,

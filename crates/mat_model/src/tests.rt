@@ -26,6 +26,9 @@ fn tree(alloc: Global) -> Result<Tree, Fail> {
             exec: true,
         },
     }];
+    if !Flat::are_small(&nodes) {
+        return Err(Fail::from(mat_path::Memory));
+    }
     Ok(Tree::from_flat(alloc, &nodes)?)
 }
 
@@ -80,18 +83,41 @@ fn a_book_is_had_once_more(rt: HostRuntime) -> Result<(), Fail> {
     let twin = book.copy(rt.alloc())?;
     assert_eq!(rt; twin.state, Some(7));
     assert_eq!(rt; twin.live.as_slice(), [1].as_slice());
-    assert_eq!(rt; twin.waiting.as_slice()[0].state, 8);
-    assert!(rt;
-        twin.rows.as_slice()[0]
-            .tree
-            .same(&book.rows.as_slice()[0].tree)
-    );
-    assert!(rt; twin.rows.as_slice()[0].path == book.rows.as_slice()[0].path);
-    assert_eq!(rt; twin.holds.as_slice()[0].command, 1);
-    assert_eq!(rt;
-        twin.tickets.as_slice()[0].answered,
-        book.tickets.as_slice()[0].answered
-    );
+    for (waiter, other) in twin
+        .waiting
+        .as_slice()
+        .iter()
+        .zip(book.waiting.as_slice().iter())
+    {
+        assert_eq!(rt; waiter, other);
+    }
+    for (row, other) in twin.rows.as_slice().iter().zip(book.rows.as_slice().iter()) {
+        assert!(rt; row.path == other.path);
+        assert!(rt; row.tree.same(&other.tree));
+    }
+    for (hold, other) in twin
+        .holds
+        .as_slice()
+        .iter()
+        .zip(book.holds.as_slice().iter())
+    {
+        assert_eq!(rt; hold.command, other.command);
+    }
+    for (ticket, other) in twin
+        .tickets
+        .as_slice()
+        .iter()
+        .zip(book.tickets.as_slice().iter())
+    {
+        assert_eq!(rt; ticket.answered, other.answered);
+    }
+    let lengths = [
+        twin.waiting.as_slice().len(),
+        twin.rows.as_slice().len(),
+        twin.holds.as_slice().len(),
+        twin.tickets.as_slice().len(),
+    ];
+    assert_eq!(rt; lengths, [1, 1, 1, 1]);
     Ok(())
 }
 
@@ -136,7 +162,7 @@ fn entries_are_had_once_more(rt: HostRuntime) -> Result<(), Fail> {
         assert_eq!(rt; twin.by, entry.by);
         let same = match (&twin.reply, &entry.reply) {
             (Reply::Cleaned { strays, .. }, Reply::Cleaned { strays: others, .. }) => {
-                strays.as_slice()[0] == others.as_slice()[0]
+                strays.as_slice().first() == others.as_slice().first()
             }
             (Reply::Started, Reply::Started) => true,
             (Reply::Stale, Reply::Stale) => true,

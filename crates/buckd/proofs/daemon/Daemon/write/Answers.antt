@@ -3,7 +3,7 @@ use Rattle.std.specs.List.{list_any}
 use Rattle.mat_model.specs.declared.answers.Reply.{Reply}
 use Rattle.mat_model.specs.Gate.{Served, is_live}
 use Rattle.mat_model.specs.Rows.{overlaps_row}
-use Rattle.mat_model.proofs.Tests.{and_false_right}
+use Rattle.mat_model.proofs.ListTests.{and_false_right}
 use Rattle.mat_model.proofs.Clear.{write_clear}
 use Rattle.buckd.specs.Daemon.{Serves, book_of}
 use Rattle.buckd.proofs.daemon.Daemon.write.Goals as goal
