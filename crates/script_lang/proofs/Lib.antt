@@ -1,0 +1,8 @@
+pub mod NumberLemmas
+pub mod WordLemmas
+pub mod PathJoins
+pub mod ClearLemmas
+pub mod BackLemmas
+pub mod BoundsLemmas
+pub mod SpelledIs
+pub mod ItemsIs
