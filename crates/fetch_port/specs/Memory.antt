@@ -15,3 +15,10 @@ blobs_of store digest = get key_cmp store.blobs (key_of digest)
 pub record HasPut (digest : Digest) (bytes : List ℕ) (old new : MemStore) : Type 0 where
   pub found : blobs_of new digest ≡ Some bytes
   pub others : (other : Digest) → is_eq (key_cmp (key_of digest) (key_of other)) ≡ false → blobs_of new other ≡ blobs_of old other
+
+-- no call of the store was counted, and what is armed stays
+pub record IsUncalled (old new : MemStore) : Type 0 where
+  pub asks : new.asks ≡ old.asks
+  pub faults : new.faults ≡ old.faults
+  pub calls : new.calls ≡ old.calls
+  pub armed : new.armed ≡ old.armed

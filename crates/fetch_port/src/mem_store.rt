@@ -29,13 +29,14 @@ pub struct MemStore {
 }
 
 impl MemStore {
-    ghost use Rattle.fetch_port.specs.Memory.{HasPut, blobs_of};
+    ghost use Rattle.fetch_port.specs.Memory.{HasPut, IsUncalled, blobs_of};
 
     /// A store that holds nothing. It takes no memory yet.
     pub fn new(alloc: Global) -> MemStore
         ensures holds { (digest : TheDigest) → blobs_of result digest ≡ None }
         ensures asks { result.asks ≡ 0 }
         ensures faults { result.faults ≡ 0 }
+        ensures calls { result.calls ≡ 0 }
         ensures armed { result.armed ≡ false }
     {
         MemStore {
@@ -48,21 +49,23 @@ impl MemStore {
         }
     }
 
-    /// Puts bytes under their digest, in the place of what is there. Want of memory changes nothing.
+    /// Puts bytes under their digest, in the place of what is there. It is no call of the store, and want of memory changes nothing.
     pub fn put(&mut self, bytes: Vec<u8>) -> Result<Digest, Memory>
         ensures ok { IfOk result (λ digest. digest ≡ digest_of bytes.items) }
         ensures put { OnOk result (HasPut (digest_of bytes.items) bytes.items self.old self.new) }
         ensures err { OnErr result ((digest : TheDigest) → blobs_of self.new digest ≡ blobs_of self.old digest) }
+        ensures calls { IsUncalled self.old self.new }
     {
         let digest = Digest::of(bytes.as_slice());
         self.lie(digest, bytes)?;
         Ok(digest)
     }
 
-    /// Puts bytes under a digest that may not be theirs, in the place of what is there. Want of memory changes nothing.
+    /// Puts bytes under a digest that may not be theirs, in the place of what is there. It is no call of the store, and want of memory changes nothing.
     pub fn lie(&mut self, digest: Digest, bytes: Vec<u8>) -> Result<(), Memory>
         ensures put { OnOk result (HasPut digest bytes.items self.old self.new) }
         ensures err { OnErr result ((other : TheDigest) → blobs_of self.new other ≡ blobs_of self.old other) }
+        ensures calls { IsUncalled self.old self.new }
     {
         match self.blobs.insert(Key::of(&digest), Items::of(bytes)) {
             Ok(_) => Ok(()),
