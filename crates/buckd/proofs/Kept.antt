@@ -25,13 +25,14 @@ use Rattle.mat_model.proofs.Stood.{used-path, stood-used, stood-put_row}
 use Rattle.region_port.specs.Disks.{disk_content}
 use Rattle.region_port.specs.Listing.{ascends, rels_of}
 use Rattle.buckd.specs.declared.daemon.Daemon.{Daemon}
-use Rattle.buckd.specs.declared.items.Item.TheVariants as item
-use Rattle.buckd.specs.declared.items.Line.{Line}
+use Rattle.script_lang.specs.declared.items.Item.TheVariants as item
+use Rattle.script_lang.specs.declared.items.Line.{Line}
 use Rattle.buckd.specs.Daemon.{book_of, point_of, Serves, Steps, Tells}
 use Rattle.buckd.specs.Run.{Point, ask, asked_of, drain, entry_at, idle, is_not_yet, make_first, makes, next, nothing_aside, tell, tell_item, tell_step, told_not_yet, told_since}
 use Rattle.buckd.specs.Sound.{AreWritten, kept_by, is_answered_before, IsKept, IsPast, IsReady, IsSound, KeepsRows}
 use Rattle.buckd.specs.Legal.{IsLegalAt}
-use Rattle.buckd.specs.Texts.{answer_lines, reply_text, shown_text}
+use Rattle.script_lang.specs.Texts.{not_yet_text, reply_text}
+use Rattle.buckd.specs.Texts.{answer_lines, shown_text}
 use Rattle.buckd.proofs.Past.{past-answer_lines, past-more}
 use Rattle.buckd.proofs.LegalRuns.{tell-at}
 use Rattle.buckd.proofs.Seen.{listed-seen}
@@ -139,7 +140,7 @@ told-request request before after given first last now steps past is =
 
 -- the line of a request that isn't served yet is answered so
 pub told-not_yet : (request : Request) (before : Point) (after : Daemon) (first last : List ℕ) → is_not_yet request before.book ≡ true →
-    point_of after ≡ before → last ≡ first ++ codes "notyet\n" → Tells (tell_item (item.Request request) before) after first last
+    point_of after ≡ before → last ≡ first ++ not_yet_text → Tells (tell_item (item.Request request) before) after first last
 told-not_yet request before after first last later at is =
     subst (λ (b : Bool).
     Tells (cond b (told_not_yet before) (tell_step before (ask (asked_of request) before))) after first last)

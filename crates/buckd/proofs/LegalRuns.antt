@@ -37,11 +37,11 @@ use Rattle.mat_model.proofs.LawLemmas.{contains_map, contains_put, history_apart
 use Rattle.mat_model.proofs.LegalLemmas.{KeepsClock, after_all-push, count_by-all, each-push, finish-clock, history-all, serve-clock}
 use Rattle.mat_model.proofs.Makes.{first_make_found}
 use Rattle.mat_model.proofs.ListTests.{and_false_right, and_true_parts}
-use Rattle.buckd.specs.declared.items.Item.{Item}
-use Rattle.buckd.specs.declared.items.Item.TheVariants as item
-use Rattle.buckd.specs.declared.items.Line.{Line}
-use Rattle.buckd.specs.declared.items.Line.TheVariants as line
-use Rattle.buckd.specs.Items.{line_of}
+use Rattle.script_lang.specs.declared.items.Item.{Item}
+use Rattle.script_lang.specs.declared.items.Item.TheVariants as item
+use Rattle.script_lang.specs.declared.items.Line.{Line}
+use Rattle.script_lang.specs.declared.items.Line.TheVariants as line
+use Rattle.buckd.specs.Lines.{line_of}
 use Rattle.buckd.specs.Legal.{IsLawful, IsLegalAt, is_own, is_own_way, new_daemon}
 use Rattle.buckd.specs.Run.{Point, ask, asked_of, begin, drain, end_made, entered, entry_at, idle, is_not_yet, made, made_if, make_first, makes, next, nothing_aside, start, tell, tell_item, tell_lines, tell_step, told_not_yet}
 
@@ -380,13 +380,22 @@ tell_item-at (item.Request asked) point at =
     ] refl
 tell_item-at item.Drain point at = drain-at point at
 tell_item-at (item.Show path) point at = at
+tell_item-at (item.Blob bytes) point at = at
+tell_item-at (item.Lie digest bytes) point at = at
+tell_item-at (item.At moment) point at = at
+tell_item-at (item.Step worker) point at = at
+tell_item-at item.Asks point at = at
+tell_item-at (item.Fail device k) point at = at
+tell_item-at (item.Stop k pick) point at = at
+tell_item-at item.Restart point at = at
 
 -- and by a line
 pub tell-at : (read : Line) (point : Point) → IsLegalAt point → IsLegalAt (tell read point).point
 tell-at line.Skip point at = at
 tell-at line.End point at = at
-tell-at line.NotYet point at = at
+tell-at line.Unread point at = at
 tell-at (line.Item it) point at = tell_item-at it point at
+tell-at line.NoMemory point at = at
 
 -- and by some lines
 pub tell_lines-at : (lines : List (List ℕ)) (point : Point) → IsLegalAt point → IsLegalAt (tell_lines lines point).point

@@ -1,4 +1,3 @@
-pub mod Words
 pub mod TextsLemmas
 pub mod RowLemmas
 pub mod Seen

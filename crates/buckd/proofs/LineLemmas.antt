@@ -10,7 +10,8 @@ use Rattle.std.proofs.lemmas.List.Splits.{slice_split_none}
 use Rattle.std.proofs.lemmas.List.Sums.{fails_before_first, passes_at_first, split_at_first}
 use Rattle.std.proofs.lemmas.Option.{cond_some, none-some}
 use Rattle.std.proofs.Math.Seq.{take-append-add}
-use Rattle.buckd.specs.Lines.{Cuts, IsLine, is_newline, lines_of, but_last, last_of, whole_lines, last_line, is_end, has_end, before_end, script_lines}
+use Rattle.script_lang.specs.Lines.{is_end}
+use Rattle.buckd.specs.Lines.{Cuts, IsLine, is_newline, lines_of, but_last, last_of, whole_lines, last_line, has_end, before_end, script_lines}
 
 -- ---- lines so far, and bytes behind them
 

@@ -9,15 +9,17 @@ use Rattle.mat_io.specs.declared.answer.Put.{Put}
 use Rattle.mat_io.specs.declared.answer.Put.TheVariants as put
 use Rattle.mat_io.specs.Streams.{Grows, GrowsInPart}
 use Rattle.buckd.specs.declared.daemon.Daemon.{Daemon}
-use Rattle.buckd.specs.declared.items.Item.{Item}
-use Rattle.buckd.specs.declared.items.Line.{Line}
-use Rattle.buckd.specs.declared.items.Line.TheVariants as line
+use Rattle.script_lang.specs.declared.items.Item.{Item}
+use Rattle.script_lang.specs.declared.items.Line.{Line}
+use Rattle.script_lang.specs.declared.items.Line.TheVariants as line
+use Rattle.script_lang.specs.Items.{item_of}
+use Rattle.script_lang.specs.Lines.{is_end, is_skipped, item_line, line_limit}
+use Rattle.tree_words.specs.Rests.{words_of}
 use Rattle.buckd.specs.declared.session.Fed.{Fed}
 use Rattle.buckd.specs.declared.session.Fed.TheVariants as fed
 use Rattle.buckd.specs.declared.session.Session.{Session}
 use Rattle.buckd.specs.Daemon.{point_of}
-use Rattle.buckd.specs.Items.{is_skipped, item_of, line_limit, line_of, served_line, words_of}
-use Rattle.buckd.specs.Lines.{Cuts, IsLine, before_end, has_end, is_end, last_line, lines_of, whole_lines}
+use Rattle.buckd.specs.Lines.{Cuts, IsLine, before_end, has_end, last_line, line_of, lines_of, whole_lines}
 use Rattle.buckd.specs.Run.{Point, start, tell, tell_lines}
 use Rattle.buckd.specs.Streams.{AnswersInPart, Broke, Ends, Feeds, Flowed, Flows, Served, Serves, Stands, answered, ends, fed_failed, gone_to, kept}
 use Rattle.buckd.proofs.LineLemmas.{before_cons, before_end_closed, before_end_goes_on, before_end_none, before_end_open, end_is, has_end_append, keep_more, last_more, last_newline, lines_split, whole_go_on, whole_more, whole_newline}
@@ -39,8 +41,8 @@ tell_text (text ∷ lines) more point =
 
 -- ---- what a line says, by as much of it as is kept
 
-long_line : (text : List ℕ) → nat_lt line_limit (length text) ≡ true → line_of text ≡ line.NotYet
-long_line text e = cond-true (nat_lt line_limit (length text)) line.NotYet _ e
+long_line : (text : List ℕ) → nat_lt line_limit (length text) ≡ true → line_of text ≡ line.Unread
+long_line text e = cond-true (nat_lt line_limit (length text)) line.Unread _ e
 
 pub line_of_kept : (text : List ℕ) → line_of (take kept text) ≡ line_of text
 line_of_kept text = by_test (nat_lt line_limit (length text)) refl
@@ -54,11 +56,11 @@ line_of_kept text = by_test (nat_lt line_limit (length text)) refl
 -- a line ends the script exactly where it says so
 pub ends_line : (text : List ℕ) → ends (line_of text) ≡ is_end text
 ends_line text =
-    by_tests (nat_lt line_limit (length text)) (is_skipped text) (is_end text) (item_of (words_of text))
+    by_tests (nat_lt line_limit (length text)) (is_skipped text) (is_end text) (item_of 1 (words_of text))
     (λ e. ap (λ (t : List ℕ). nat_lt line_limit (length t)) (end_is text e)) (λ e. ap is_skipped (end_is text e))
   where
     by_tests : (long skipped ended : Bool) (item : Option Item) → (ended ≡ true → long ≡ false) → (ended ≡ true → skipped ≡ false)
-        → ends (cond long line.NotYet (cond skipped line.Skip (cond ended line.End (served_line item)))) ≡ ended
+        → ends (cond long line.Unread (cond skipped line.Skip (cond ended line.End (item_line item)))) ≡ ended
     by_tests true skipped true item a b = sym (a refl)
     by_tests true skipped false item a b = refl
     by_tests false true true item a b = sym (b refl)

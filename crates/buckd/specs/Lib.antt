@@ -1,5 +1,4 @@
 pub mod Lines
-pub mod Items
 pub mod Texts
 pub mod Run
 pub mod Daemon

@@ -1,7 +1,8 @@
 -- The lines of a script.
-use Rattle.std.specs.Prelude.{◌≡◌, ◌++◌, ℕ, ◌==◌, nat_lt, nat_eq, codes, Bool, if◌then◌else◌, List, [], ◌∷◌, length, take}
+use Rattle.std.specs.Prelude.{◌≡◌, ◌++◌, ℕ, ◌==◌, nat_lt, Bool, if◌then◌else◌, List, [], ◌∷◌, length, take}
 use Rattle.std.specs.List.{list_any, slice_split, before_first}
-use Rattle.std.specs.Cmp.Lexicographic.{pointwise}
+use Rattle.script_lang.specs.declared.items.Line.{Line}
+use Rattle.script_lang.specs.Lines.{is_end, line_of as line_for}
 
 -- whether a byte ends a line
 abbrev pub is_newline : ℕ → Bool
@@ -31,15 +32,15 @@ whole_lines bytes = but_last (lines_of bytes)
 abbrev pub last_line : List ℕ → List ℕ
 last_line bytes = last_of (lines_of bytes)
 
--- the line that ends a script
-abbrev pub is_end : List ℕ → Bool
-is_end line = pointwise nat_eq line (codes "end")
+-- what a line says: a script is read for one worker
+abbrev pub line_of : List ℕ → Line
+line_of text = line_for 1 text
 
--- whether a script ends by such a line
+-- whether a script ends by a line that says so
 abbrev pub has_end : List (List ℕ) → Bool
 has_end lines = list_any is_end lines
 
--- the lines before the first such line
+-- the lines before the first one that ends the script
 abbrev pub before_end : List (List ℕ) → List (List ℕ)
 before_end lines = before_first is_end lines
 

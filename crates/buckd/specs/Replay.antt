@@ -16,7 +16,7 @@ use Rattle.buckd.specs.declared.replay.Ending.TheVariants as ending
 use Rattle.buckd.specs.declared.session.Fed.{Fed}
 use Rattle.buckd.specs.declared.session.Fed.TheVariants as fed
 use Rattle.buckd.specs.declared.session.Session.{Session}
-use Rattle.buckd.specs.Items.{same_word}
+use Rattle.script_lang.specs.Spelled.{same_word}
 use Rattle.buckd.specs.Legal.{IsLegalRun}
 use Rattle.buckd.specs.Lines.{before_end, has_end, script_lines, whole_lines}
 use Rattle.buckd.specs.Run.{Point, start, tell_lines}

@@ -22,12 +22,13 @@ use Rattle.mat_model.specs.Rows.{overlaps_row, seen_below}
 use Rattle.mat_model.specs.Tickets.{is_open}
 use Rattle.mat_model.specs.Work.{finish}
 use Rattle.mat_model.specs.Yard.{Yard, first_task, idle_yard}
-use Rattle.buckd.specs.declared.items.Item.{Item}
-use Rattle.buckd.specs.declared.items.Item.TheVariants as item
-use Rattle.buckd.specs.declared.items.Line.{Line}
-use Rattle.buckd.specs.declared.items.Line.TheVariants as line
-use Rattle.buckd.specs.Items.{line_of}
-use Rattle.buckd.specs.Texts.{reply_text, answer_lines, shown_text}
+use Rattle.script_lang.specs.declared.items.Item.{Item}
+use Rattle.script_lang.specs.declared.items.Item.TheVariants as item
+use Rattle.script_lang.specs.declared.items.Line.{Line}
+use Rattle.script_lang.specs.declared.items.Line.TheVariants as line
+use Rattle.script_lang.specs.Texts.{not_yet_text, reply_text, unread_text}
+use Rattle.buckd.specs.Lines.{line_of}
+use Rattle.buckd.specs.Texts.{answer_lines, shown_text}
 
 -- where a run is: the book, and the history that led to it
 pub record Point : Type 0 where
@@ -139,7 +140,7 @@ told_since before text point = record {
 }
 
 abbrev pub told_not_yet : Point → Told
-told_not_yet point = record { text = codes "notyet\n"; point = point }
+told_not_yet point = record { text = not_yet_text; point = point }
 
 -- a request that isn't served yet: an enter beside a live command, a write over a row, and any but these two and an ensure
 abbrev pub is_not_yet : Request → Book → Bool
@@ -158,20 +159,29 @@ is_not_yet request.Flush book = true
 abbrev pub tell_step : Point → Step → Told
 tell_step before done = told_since before (reply_text done.reply) done.point
 
--- an item
+-- an item; those that aren't served yet are told so
 abbrev pub tell_item : Item → Point → Told
 tell_item (item.Request asked) point =
     if is_not_yet asked point.book then told_not_yet point
     else tell_step point (ask (asked_of asked) point)
 tell_item item.Drain point = told_since point (codes "drained") (drain point)
 tell_item (item.Show path) point = record { text = shown_text (seen_below path point.book.rows); point = point }
+tell_item (item.Blob bytes) point = told_not_yet point
+tell_item (item.Lie digest bytes) point = told_not_yet point
+tell_item (item.At moment) point = told_not_yet point
+tell_item (item.Step worker) point = told_not_yet point
+tell_item item.Asks point = told_not_yet point
+tell_item (item.Fail device k) point = told_not_yet point
+tell_item (item.Stop k pick) point = told_not_yet point
+tell_item item.Restart point = told_not_yet point
 
 -- a line; one that ends the script is answered nothing
 abbrev pub tell : Line → Point → Told
 tell line.Skip point = record { text = []; point = point }
 tell line.End point = record { text = []; point = point }
-tell line.NotYet point = told_not_yet point
+tell line.Unread point = record { text = unread_text; point = point }
 tell (line.Item it) point = tell_item it point
+tell line.NoMemory point = record { text = []; point = point }
 
 -- some lines in turn
 abbrev pub tell_lines : List (List ℕ) → Point → Told

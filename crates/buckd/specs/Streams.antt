@@ -8,10 +8,9 @@ use Rattle.buckd.specs.declared.session.Fed.{Fed}
 use Rattle.buckd.specs.declared.session.Fed.TheVariants as fed
 use Rattle.buckd.specs.declared.session.Session.{Session}
 use Rattle.buckd.specs.Daemon.{point_of}
-use Rattle.buckd.specs.declared.items.Line.{Line}
-use Rattle.buckd.specs.declared.items.Line.TheVariants as line
-use Rattle.buckd.specs.Items.{line_of}
-use Rattle.buckd.specs.Lines.{before_end, has_end, last_line, whole_lines}
+use Rattle.script_lang.specs.declared.items.Line.{Line}
+use Rattle.script_lang.specs.declared.items.Line.TheVariants as line
+use Rattle.buckd.specs.Lines.{before_end, has_end, last_line, line_of, whole_lines}
 use Rattle.buckd.specs.Run.{Told, start, tell, tell_lines}
 use Rattle.buckd.specs.Sound.{IsSound}
 
@@ -54,8 +53,9 @@ answered lines = tell_lines (before_end lines) start
 abbrev pub ends : Line → Bool
 ends line.Skip = false
 ends line.End = true
-ends line.NotYet = false
+ends line.Unread = false
 ends (line.Item it) = false
+ends line.NoMemory = false
 
 -- the bytes of a line were served
 pub record Serves (said : List ℕ) (old : Daemon) (gathered : List ℕ) (new : Session) (ending : Bool) : Type 0 where

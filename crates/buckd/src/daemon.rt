@@ -25,7 +25,6 @@ ghost use Rattle.region_port.specs.Disks.{disk_content};
 ghost use Rattle.buckd.specs.Making.{file_part};
 ghost use Rattle.buckd.specs.Run.{entry_at};
 
-use crate::items::{Item, Line};
 use crate::making::put_on_disk;
 use crate::{rows, texts, tickets};
 use mat_digest::Digest;
@@ -36,6 +35,7 @@ use mat_model::{
 use mat_path::{Items, Memory, Path, Rel};
 use mat_tree::{Flat, Kind, Sum, Tree, What};
 use region_port::MemDisk;
+use script_lang::{Item, Line, push_not_yet, push_reply, push_text, push_unread};
 use std::alloc::Global;
 use std::collections::BTreeMap;
 
@@ -145,7 +145,7 @@ impl Daemon {
     ghost use Rattle.buckd.specs.Daemon.{book_of, point_of, task_for, Serves, Steps, Tells};
     ghost use Rattle.buckd.specs.Legal.{IsLegalRun};
     ghost use Rattle.buckd.specs.Run.{ask, asked_of, drain, idle, is_not_yet, made, make_first, start, tell, tell_item};
-    ghost use Rattle.buckd.specs.declared.items.Item.TheVariants as item;
+    ghost use Rattle.script_lang.specs.declared.items.Item.TheVariants as item;
     ghost use Rattle.buckd.specs.Sound.{kept_by, IsKept, IsPast, IsReady, IsSound, KeepsBook, KeepsDisk, KeepsRows};
 
     /// A daemon over an empty disk.
@@ -530,11 +530,11 @@ impl Daemon {
         ensures sound { OnOk result (IsReady self.new) }
     {
         if self.is_not_yet(&request) {
-            return texts::push_text(out, b"notyet\n");
+            return push_not_yet(out);
         }
         let reply = self.serve(request)?;
-        texts::push_reply(out, &reply)?;
-        texts::push_text(out, b"\n")
+        push_reply(out, &reply)?;
+        push_text(out, b"\n")
     }
 
     /// Drains, and tells the tickets that were answered.
@@ -545,7 +545,7 @@ impl Daemon {
     {
         let before = self.number();
         self.drain()?;
-        texts::push_text(out, b"drained\n")?;
+        push_text(out, b"drained\n")?;
         let count = self.number().saturating_sub(before);
         texts::push_answer_lines(out, before, count, self.tickets.as_slice())
     }
@@ -569,6 +569,7 @@ impl Daemon {
             Item::Request(request) => self.tell_request(request, out),
             Item::Drain => self.tell_drain(out),
             Item::Show(path) => self.tell_show(&path, out),
+            _ => push_not_yet(out),
         }
     }
 
@@ -581,8 +582,9 @@ impl Daemon {
         match line {
             Line::Skip => Ok(()),
             Line::End => Ok(()),
-            Line::NotYet => texts::push_text(out, b"notyet\n"),
+            Line::Unread => push_unread(out),
             Line::Item(item) => self.tell_item(item, out),
+            Line::NoMemory => Err(Memory),
         }
     }
 

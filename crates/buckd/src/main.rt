@@ -2,7 +2,6 @@
 #![tactic(auto)]
 
 mod daemon;
-mod items;
 mod lines;
 mod making;
 mod output;

@@ -1,16 +1,19 @@
 // A run in progress: the daemon, the text that waits to go out, and the line that isn't whole yet.
 ghost use Rattle.std.specs.Prelude.{◌≡◌, ◌∷◌, ◌++◌, ◌-◌, [], ℕ, false, length, take, List, Option, IfOk};
 ghost use Rattle.mat_io.specs.Causes.{HasCause};
-ghost use Rattle.buckd.specs.Lines.{IsLine, lines_of};
+ghost use Rattle.buckd.specs.Lines.{IsLine, line_of, lines_of};
 ghost use Rattle.buckd.specs.Streams.{ends, gone_to, kept};
 
 use crate::daemon::Daemon;
-use crate::items::{Line, read_line};
 use crate::lines::{cut_line, keep};
 use crate::output::flush_enough;
 use mat_io::{Put, Sink};
 use mat_path::Memory;
+use script_lang::{Line, read_line};
 use std::alloc::Global;
+
+/// How many workers a script is read for.
+const WORKERS: u32 = 1;
 
 /// Where a run stands after a piece of its script.
 #[derive(Clone, Copy, Debug, PartialEq, Eq)]
@@ -55,7 +58,7 @@ impl Session {
         requires { IsSound self.old.daemon }
         ensures { IfOk result (λ ended. Serves self.old.partial.items self.old.daemon self.old.gathered.items self.new ended) }
     {
-        let line = read_line(alloc, self.partial.as_slice())?;
+        let line = read(alloc, self.partial.as_slice())?;
         self.partial.clear();
         let ended = is_end(&line);
         self.daemon.tell(line, &mut self.gathered)?;
@@ -157,4 +160,17 @@ fn is_end(line: &Line) -> bool
     ensures { result ≡ ends line.now }
 {
     matches!(line, Line::End)
+}
+
+/// What a line says. Want of memory is the one refusal.
+fn read(alloc: Global, line: &[u8]) -> Result<Line, Memory>
+    ensures ok { IfOk result (λ said. said ≡ line_of line.now) }
+{
+    match read_line(alloc, line, WORKERS) {
+        Line::Skip => Ok(Line::Skip),
+        Line::End => Ok(Line::End),
+        Line::Unread => Ok(Line::Unread),
+        Line::Item(item) => Ok(Line::Item(item)),
+        Line::NoMemory => Err(Memory),
+    }
 }

@@ -78,13 +78,13 @@ mod tests {
             (100, b"end", 0, b""),
             (100, b"end\nfoo\n", 0, b""),
             (100, b"", 5, b""),
-            (100, b"foo", 5, b"notyet\n"),
-            (100, b"foo\n\n#\nfoo\n", 5, b"notyet\nnotyet\n"),
+            (100, b"foo", 5, b"unread\n"),
+            (100, b"foo\n\n#\nfoo\n", 5, b"unread\nunread\n"),
             (0, b"", 7, b""),
             (3, b"foo\nend\n", 7, b""),
-            (4, b"foo\nend\n", 7, b"notyet\n"),
-            (7, b"foo\nend", 7, b"notyet\n"),
-            (8, b"foo\nend", 0, b"notyet\n"),
+            (4, b"foo\nend\n", 7, b"unread\n"),
+            (7, b"foo\nend", 7, b"unread\n"),
+            (8, b"foo\nend", 0, b"unread\n"),
         ];
         for (limit, script, status, text) in table.iter() {
             let mut input = source(rt.alloc(), *script, &[])?;
@@ -127,7 +127,7 @@ mod tests {
         let mut output = sink(rt.alloc(), &[])?;
         let ended = replay(rt.alloc(), 1, &mut input, &mut output);
         assert_eq!(rt; ended.status, 0);
-        assert_eq!(rt; output.bytes(), b"notyet\nnotyet\n".as_slice());
+        assert_eq!(rt; output.bytes(), b"unread\nunread\n".as_slice());
         Ok(())
     }
 

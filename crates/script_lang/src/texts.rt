@@ -13,8 +13,8 @@ use mat_tree::{Flat, Kind, Sum};
 use std::alloc::Global;
 use tree_words::push_node;
 
-// Puts a text behind.
-pub(crate) fn push_text(out: &mut Vec<u8>, text: &[u8]) -> Result<(), Memory>
+/// Puts a text behind what a `Vec` holds.
+pub fn push_text(out: &mut Vec<u8>, text: &[u8]) -> Result<(), Memory>
     ensures ok { OnOk result (out.new.items ≡ out.old.items ++ text.now) }
 {
     out.extend_from_slice(text)?;
@@ -29,8 +29,8 @@ pub(crate) fn push_number(out: &mut Vec<u8>, number: u64) -> Result<(), Memory>
     push_text(out, buffer.format(number).as_bytes())
 }
 
-// Puts a word and a number behind.
-pub(crate) fn push_numbered(out: &mut Vec<u8>, word: &[u8], number: u64) -> Result<(), Memory>
+/// Puts a word and a number behind.
+pub fn push_numbered(out: &mut Vec<u8>, word: &[u8], number: u64) -> Result<(), Memory>
     ensures ok { OnOk result (out.new.items ≡ out.old.items ++ numbered word.now number) }
 {
     push_text(out, word)?;
@@ -173,8 +173,8 @@ fn push_clean(out: &mut Vec<u8>, dry: bool, rows: &[Gone], strays: &[Path]) -> R
     push_strays(out, strays)
 }
 
-// Puts a reply behind.
-fn push_reply(out: &mut Vec<u8>, reply: &Reply) -> Result<(), Memory>
+/// Puts a reply behind, without a newline at its end.
+pub fn push_reply(out: &mut Vec<u8>, reply: &Reply) -> Result<(), Memory>
     ensures ok { OnOk result (out.new.items ≡ out.old.items ++ reply_text reply.now) }
 {
     match reply {
@@ -224,8 +224,8 @@ fn push_digests(out: &mut Vec<u8>, first: &Digest, second: &Digest) -> Result<()
     push_digest(out, second)
 }
 
-// Puts an answer behind.
-fn push_answer(out: &mut Vec<u8>, answer: &Answer) -> Result<(), Memory>
+/// Puts an answer behind.
+pub fn push_answer(out: &mut Vec<u8>, answer: &Answer) -> Result<(), Memory>
     ensures ok { OnOk result (out.new.items ≡ out.old.items ++ answer_text answer.now) }
 {
     match answer {

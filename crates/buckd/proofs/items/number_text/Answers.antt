@@ -1,6 +1,0 @@
-use Rattle.std.proofs.Common.{sym, ◌∙◌}
-use Rattle.buckd.proofs.Words.{IsUtf8-number}
-use Rattle.buckd.proofs.items.number_text.Goals as goal
-
-pub returns-in-Err : goal.returns-in-Err
-returns-in-Err c = absurd (c.in-Err.ensures.cases.0 (IsUtf8-number c.args.word.now (sym c.is_number.ensures ∙ c.if-not-is_number.false)))
