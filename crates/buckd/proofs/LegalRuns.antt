@@ -1,9 +1,8 @@
 -- A run's history is legal, and its book is the book of the history.
-use Rattle.std.proofs.Common.{◌≡◌, ℕ, zero, suc, ◌+◌, ◌==◌, max, Bool, true, false, not, ◌||◌, ◌&&◌, List, [], ◌∷◌, ◌++◌, length, count_by, Option, Some, None, cond, refl, sym, ap, ap₂, subst, ◌∙◌, Contains, find, filter, map, arith}
+use Rattle.std.proofs.Common.{◌≡◌, ℕ, zero, suc, ◌+◌, ◌==◌, max, Bool, true, false, not, ◌||◌, ◌&&◌, List, [], ◌∷◌, ◌++◌, length, count_by, Option, Some, None, cond, refl, sym, ap, ap₂, subst, ◌∙◌, Contains, find, filter, arith}
 use Rattle.std.specs.List.{list_any, list_all}
 use Rattle.std.specs.Option.{option_map_or}
 use Rattle.std.proofs.lemmas.Bool.{and_from}
-use Rattle.std.proofs.lemmas.List.{length_push}
 use Rattle.std.proofs.lemmas.List.Folds.{list_all-append}
 use Rattle.mat_digest.specs.Digests.{digest_of}
 use Rattle.mat_tree.specs.Trees.{file_sum, file_tree}
@@ -12,7 +11,6 @@ use Rattle.mat_model.specs.declared.answers.Reply.{Reply}
 use Rattle.mat_model.specs.declared.answers.Reply.TheVariants as reply
 use Rattle.mat_model.specs.declared.book.Book.{Book}
 use Rattle.mat_model.specs.declared.book.Row.{Row}
-use Rattle.mat_model.specs.declared.book.Ticket.{Ticket}
 use Rattle.mat_model.specs.declared.entries.Entry.{Entry}
 use Rattle.mat_model.specs.declared.entries.Event.{Event}
 use Rattle.mat_model.specs.declared.entries.Event.TheVariants as event
@@ -25,12 +23,12 @@ use Rattle.mat_model.specs.declared.requests.Request.{Request}
 use Rattle.mat_model.specs.declared.requests.Request.TheVariants as request
 use Rattle.mat_model.specs.Declarations.{declare, new_row, write}
 use Rattle.mat_model.specs.Gate.{Served, admits, is_live, is_waiting}
-use Rattle.mat_model.specs.History.{IsInOrder, IsLegal, IsLegalEntry, Point as ModelPoint, after, answer, answer_done, book_of, is_of, opened, point_of, recorded_as, stepped}
+use Rattle.mat_model.specs.History.{IsInOrder, IsLegal, IsLegalEntry, Point as ModelPoint, answer, answer_done, book_of, is_of, opened, point_of, recorded_as, stepped}
 use Rattle.mat_model.specs.Requests.{at_moment, ensure_row, serve}
 use Rattle.mat_model.specs.Rows.{are_apart, cover, overlaps_row, put_row, used, used_row}
 use Rattle.mat_model.specs.Tickets.{is_open}
 use Rattle.mat_model.specs.Work.{end_make, finish, is_declared}
-use Rattle.mat_model.specs.Yard.{Debris, Job, Lent, Way, WayOf, Yard, add_debris, copied, ended, first_make, first_task, has_stamp, held, is_job, is_not_below, is_other_job, is_way_of, leaves_debris, lent_by, lent_for, made_yard, removed_rows, returned, started, store, way_declared, way_of, way_within, ways_after, writes_lying}
+use Rattle.mat_model.specs.Yard.{Debris, Job, Lent, Way, WayOf, Yard, add_debris, copied, ended, first_task, has_stamp, held, is_job, is_not_below, is_other_job, is_way_of, leaves_debris, lent_by, lent_for, made_yard, removed_rows, returned, started, store, way_declared, way_of, way_within, ways_after, writes_lying}
 use Rattle.mat_model.proofs.Clear.{write_clear}
 use Rattle.mat_model.proofs.Idle.{has_one, idle_first, itself, no_wipe, none_removed}
 use Rattle.mat_model.proofs.LawLemmas.{contains_map, contains_put, history_apart, used-stamp}

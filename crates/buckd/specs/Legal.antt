@@ -1,5 +1,5 @@
 -- What holds of the history of a run at each point.
-use Rattle.std.specs.Prelude.{◌≡◌, ℕ, Bool, true, false, List, [], length}
+use Rattle.std.specs.Prelude.{◌≡◌, Bool, true, false, []}
 use Rattle.std.specs.List.{list_all}
 use Rattle.mat_model.specs.History.{IsLegal, Opening, book_of, is_of, point_of}
 use Rattle.mat_model.specs.Yard.{Way, WayOf, copied, held, store}
