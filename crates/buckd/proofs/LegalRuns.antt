@@ -5,7 +5,14 @@ use Rattle.std.specs.Option.{option_map_or}
 use Rattle.std.proofs.lemmas.Bool.{and_from}
 use Rattle.std.proofs.lemmas.List.Folds.{list_all-append}
 use Rattle.mat_digest.specs.Digests.{digest_of}
-use Rattle.mat_tree.specs.Trees.{file_sum, file_tree}
+use Rattle.mat_digest.specs.declared.digest.Digest.{Digest}
+use Rattle.mat_tree.specs.declared.flat.Flat.{Flat}
+use Rattle.fetch_port.specs.Fetches.{Blobs}
+use Rattle.write_plan.specs.declared.act.Act.{Act}
+use Rattle.write_plan.specs.declared.act.Act.TheVariants as act
+use Rattle.write_plan.specs.declared.act.Supply.{Supply}
+use Rattle.write_plan.specs.declared.act.Supply.TheVariants as supply
+use Rattle.mat_tree.specs.Trees.{file_sum, file_tree, same_digest}
 use Rattle.mat_model.specs.declared.answers.Recorded.TheVariants as recorded
 use Rattle.mat_model.specs.declared.answers.Reply.{Reply}
 use Rattle.mat_model.specs.declared.answers.Reply.TheVariants as reply
@@ -14,6 +21,7 @@ use Rattle.mat_model.specs.declared.book.Row.{Row}
 use Rattle.mat_model.specs.declared.entries.Entry.{Entry}
 use Rattle.mat_model.specs.declared.entries.Event.{Event}
 use Rattle.mat_model.specs.declared.entries.Event.TheVariants as event
+use Rattle.mat_model.specs.declared.entries.Outcome.{Outcome}
 use Rattle.mat_model.specs.declared.entries.Outcome.TheVariants as outcome
 use Rattle.mat_model.specs.declared.entries.Task.{Task}
 use Rattle.mat_model.specs.declared.entries.Task.TheVariants as task
@@ -21,15 +29,15 @@ use Rattle.mat_model.specs.declared.requests.Asked.{Asked}
 use Rattle.mat_model.specs.declared.requests.Asked.TheVariants as asked
 use Rattle.mat_model.specs.declared.requests.Request.{Request}
 use Rattle.mat_model.specs.declared.requests.Request.TheVariants as request
-use Rattle.mat_model.specs.Declarations.{declare, new_row, write}
+use Rattle.mat_model.specs.Declarations.{declare, declare_tree, new_row}
 use Rattle.mat_model.specs.Gate.{Served, admits, is_live, is_waiting}
-use Rattle.mat_model.specs.History.{IsInOrder, IsLegal, IsLegalEntry, Point as ModelPoint, answer, answer_done, book_of, is_of, opened, point_of, recorded_as, stepped}
+use Rattle.mat_model.specs.History.{IsInOrder, IsLegalEntry, Point as ModelPoint, answer, answer_done, is_of, opened, may_end, point_of, recorded_as, stepped}
 use Rattle.mat_model.specs.Requests.{at_moment, ensure_row, serve}
 use Rattle.mat_model.specs.Rows.{are_apart, cover, overlaps_row, put_row, used, used_row}
 use Rattle.mat_model.specs.Tickets.{is_open}
 use Rattle.mat_model.specs.Work.{end_make, finish, is_declared}
 use Rattle.mat_model.specs.Yard.{Debris, Job, Lent, Way, WayOf, Yard, add_debris, copied, ended, first_task, has_stamp, held, is_job, is_not_below, is_other_job, is_way_of, leaves_debris, lent_by, lent_for, made_yard, removed_rows, returned, started, store, way_declared, way_of, way_within, ways_after, writes_lying}
-use Rattle.mat_model.proofs.Clear.{write_clear}
+use Rattle.mat_model.proofs.Clear.{declare_clear}
 use Rattle.mat_model.proofs.Idle.{has_one, idle_first, itself, no_wipe, none_removed}
 use Rattle.mat_model.proofs.LawLemmas.{contains_map, contains_put, history_apart, used-stamp}
 use Rattle.mat_model.proofs.LegalLemmas.{KeepsClock, after_all-push, count_by-all, each-push, finish-clock, history-all, serve-clock}
@@ -41,7 +49,8 @@ use Rattle.script_lang.specs.declared.items.Line.{Line}
 use Rattle.script_lang.specs.declared.items.Line.TheVariants as line
 use Rattle.buckd.specs.Lines.{line_of}
 use Rattle.buckd.specs.Legal.{IsLawful, IsLegalAt, is_own, is_own_way, new_daemon}
-use Rattle.buckd.specs.Run.{Point, ask, asked_of, begin, drain, end_made, entered, entry_at, idle, is_not_yet, made, made_if, make_first, makes, next, nothing_aside, start, tell, tell_item, tell_lines, tell_step, told_not_yet}
+use Rattle.buckd.specs.Making.{act_failure, bytes_failure, fetch_failure, file_failure, given, or_made, outcome_of}
+use Rattle.buckd.specs.Run.{Point, Scene, acts_of, ask, asked_of, begin, drain, end_job, entered, entry_at, idle, is_not_yet, made, made_if, make_first, makes, next, nothing_aside, start, tell, tell_asked, tell_item, tell_lines, told_not_yet, worked}
 
 -- what the history of a run has led to
 abbrev pub model : Point → ModelPoint
@@ -52,7 +61,7 @@ abbrev pub added : Event → Served → Point → Entry
 added happened served point = entry_at (length point.history) happened served.reply
 
 -- a run begins so
-pub start-at : IsLegalAt start
+pub start-at : IsLegalAt start.point
 start-at = record {
   lawful = record { legal = tt; book = refl; own = refl; first = refl; now = refl };
   jobs = refl;
@@ -109,7 +118,8 @@ asked-is (request.Write command path bytes) point said lawful now =
 asked-is (request.Ensure command path) point said lawful now =
     ap₂ (λ (n : ℕ) (b : Book). serve n 0 nothing_aside (asked.Ensure command path) b) (number_is point lawful) (sym lawful.book)
 asked-is (request.Leave command) point said lawful now = absurd cc
-asked-is (request.Declare command path tree) point said lawful now = absurd cc
+asked-is (request.Declare command path tree) point said lawful now =
+    ap₂ (λ (n : ℕ) (b : Book). serve n 0 nothing_aside (asked.Declare command path tree) b) (number_is point lawful) (sym lawful.book)
 asked-is (request.Copy command path source) point said lawful now = absurd cc
 asked-is (request.Matches command path sum) point said lawful now = absurd cc
 asked-is (request.Has command path) point said lawful now = absurd cc
@@ -138,27 +148,29 @@ all-either : (rows : List Row) (b : Bool) (first second : Served) → HasAll row
 all-either rows true first second one other = one
 all-either rows false first second one other = other
 
+-- a declaration that is served adds its row
+all-declared : (number command : ℕ) (path : List (List ℕ)) (tree : List Flat) (book : Book) →
+    (is_live command book && list_any (overlaps_row path) book.rows) ≡ false →
+    HasAll book.rows (declare_tree number command path tree (at_moment 0 book)).book.rows
+all-declared number command path tree book now =
+    elim (is_live command (at_moment 0 book)) as
+    (λ b. is_live command (at_moment 0 book) ≡ b →
+    HasAll book.rows (cond b (declare number command path tree (at_moment 0 book)) (record { reply = reply.NotLive; book = at_moment 0 book })).book.rows) [
+      | true ↦ λ live.
+          subst (λ (s : Served). HasAll book.rows s.book.rows)
+          (sym (declare_clear number command path tree (at_moment 0 book)
+          (and_false_right (is_live command book) (list_any (overlaps_row path) book.rows) now live)))
+          (all-put (new_row number (at_moment 0 book).now path tree) book.rows)
+      | false ↦ λ dead. all-same book.rows
+    ] refl
+
 all-served : (asked : Request) (number : ℕ) (book : Book) → is_not_yet asked book ≡ false →
     HasAll book.rows (serve number 0 nothing_aside (asked_of asked) book).book.rows
 all-served (request.Enter command state) number book now =
     all-either book.rows (is_live command (at_moment 0 book) || is_waiting command (at_moment 0 book)) _ _ (all-same book.rows)
     (all-either book.rows (admits state (at_moment 0 book)) _ _ (all-same book.rows) (all-same book.rows))
-all-served (request.Write command path bytes) number book now =
-    elim (is_live command (at_moment 0 book)) as
-    (λ b. is_live command (at_moment 0 book) ≡ b →
-    HasAll book.rows (write number command path (file_sum (digest_of bytes) false) (at_moment 0 book)).book.rows) [
-      | true ↦ λ live.
-          subst (λ (s : Served). HasAll book.rows s.book.rows)
-          (sym (write_clear number command path (digest_of bytes) (at_moment 0 book) live
-          (and_false_right (is_live command book) (list_any (overlaps_row path) book.rows) now live)))
-          (all-put (new_row number (at_moment 0 book).now path (file_tree (digest_of bytes) false)) book.rows)
-      | false ↦ λ dead.
-          subst (λ (b : Bool). HasAll book.rows (cond b (served_write (at_moment 0 book)) (record { reply = reply.NotLive; book = at_moment 0 book })).book.rows)
-          (sym dead) (all-same book.rows)
-    ] refl
-  where
-    served_write : Book → Served
-    served_write later = declare number command path (file_tree (digest_of bytes) false) later
+all-served (request.Write command path bytes) number book now = all-declared number command path (file_tree (digest_of bytes) false) book now
+all-served (request.Declare command path tree) number book now = all-declared number command path tree book now
 all-served (request.Ensure command path) number book now =
     all-either book.rows (is_live command (at_moment 0 book)) _ _
     (elim (cover book.rows path) as (λ o. HasAll book.rows (ensure_row number command path (at_moment 0 book) o).book.rows) [
@@ -167,7 +179,6 @@ all-served (request.Ensure command path) number book now =
     ])
     (all-same book.rows)
 all-served (request.Leave command) number book now = absurd cc
-all-served (request.Declare command path tree) number book now = absurd cc
 all-served (request.Copy command path source) number book now = absurd cc
 all-served (request.Matches command path sum) number book now = absurd cc
 all-served (request.Has command path) number book now = absurd cc
@@ -256,7 +267,10 @@ ask-at wanted point at now =
         kept (asked.Ensure command path) served leads lawful refl (clean_debris _ (model point).yard (model point).book.rows served.book.rows has)
         (own_after (asked.Ensure command path) served.reply (model point).book.rows (model point).yard.ways refl at.ways)
     yards (request.Leave command) now served leads lawful has = absurd cc
-    yards (request.Declare command path tree) now served leads lawful has = absurd cc
+    yards (request.Declare command path tree) now served leads lawful has =
+        kept (asked.Declare command path tree) served leads lawful refl
+        (clean_debris _ (model point).yard (model point).book.rows served.book.rows has)
+        (own_after (asked.Declare command path tree) served.reply (model point).book.rows (model point).yard.ways refl at.ways)
     yards (request.Copy command path source) now served leads lawful has = absurd cc
     yards (request.Matches command path sum) now served leads lawful has = absurd cc
     yards (request.Has command path) now served leads lawful has = absurd cc
@@ -281,15 +295,30 @@ make_yard point path stamp =
     started ((model point).book.first + length (model point).history) 0 (task.Make path stamp) (model point).book.rows (model point).yard
 
 -- a make ends recorded as nothing
-nothing_recorded : (number : ℕ) (path : List (List ℕ)) (book : Book) (o : Option Row) →
-    recorded_as (end_make number path outcome.Made recorded.Nothing book o).reply ≡ recorded.Nothing
-nothing_recorded number path book None = refl
-nothing_recorded number path book (Some row) = refl
+nothing_recorded : (number : ℕ) (path : List (List ℕ)) (ends : Outcome) (book : Book) (o : Option Row) →
+    recorded_as (end_make number path ends recorded.Nothing book o).reply ≡ recorded.Nothing
+nothing_recorded number path ends book None = refl
+nothing_recorded number path ends book (Some row) = refl
 
--- the make that comes first leaves a run legal
-made-at : (path : List (List ℕ)) (stamp : ℕ) (point : Point) → IsLegalAt point → are_apart point.book.rows ≡ true →
-    first_task idle point.book ≡ Some (task.Make path stamp) → IsLegalAt (made (task.Make path stamp) point)
-made-at path stamp point at apart is =
+-- the end of a make leaves the jobs, the debris and the ways
+record IsSameWork (yard other : Yard) : Type 0 where
+  jobs : other.jobs ≡ yard.jobs
+  debris : other.debris ≡ yard.debris
+  ways : other.ways ≡ yard.ways
+
+made_same : (path : List (List ℕ)) (ends : Outcome) (yard : Yard) → IsSameWork yard (made_yard path ends (reply.Fresh recorded.Nothing) yard)
+made_same path outcome.Made yard = record { jobs = refl; debris = refl; ways = refl }
+made_same path outcome.Wiped yard = record { jobs = refl; debris = refl; ways = refl }
+made_same path (outcome.Missing digest) yard = record { jobs = refl; debris = refl; ways = refl }
+made_same path (outcome.Corrupt wanted found) yard = record { jobs = refl; debris = refl; ways = refl }
+made_same path (outcome.Fault note) yard = record { jobs = refl; debris = refl; ways = refl }
+made_same path outcome.NoMemory yard = record { jobs = refl; debris = refl; ways = refl }
+
+-- the make that comes first leaves a run legal, however a make may end
+worked-at : (path : List (List ℕ)) (stamp : ℕ) (ends : Outcome) (point : Point) → IsLegalAt point → are_apart point.book.rows ≡ true →
+    first_task idle point.book ≡ Some (task.Make path stamp) → may_end (task.Make path stamp) ends ≡ true →
+    IsLegalAt (worked (task.Make path stamp) ends point)
+worked-at path stamp ends point at apart is may =
     let make : Task = task.Make path stamp in
     let first_served : Served = record { reply = reply.Started; book = point.book } in
     let begins : answer (model point) 0 (event.Begin make) reply.Started ≡ first_served =
@@ -311,36 +340,85 @@ made-at path stamp point at apart is =
     let mine : (job.number == next point) ≡ true = ap (λ (n : ℕ). n == next point) (number_is point at.lawful) ∙ itself (next point) in
     let runs : find (is_job (next point)) (model one).yard.jobs ≡ Some job =
     ap (λ (js : List Job). find (is_job (next point)) js) jobs_one ∙ ap (λ (b : Bool). cond b (Some job) None) mine in
-    let ends : Served = finish (next one) make outcome.Made recorded.Nothing one.book in
-    let same_ends : finish ((model one).book.first + length (model one).history) make outcome.Made (recorded_as ends.reply) (model one).book ≡ ends =
-    ap (λ how. finish ((model one).book.first + length (model one).history) make outcome.Made how (model one).book)
-    (nothing_recorded (next one) path one.book (find (is_declared path stamp) one.book.rows))
-    ∙ ap₂ (λ (n : ℕ) (b : Book). finish n make outcome.Made recorded.Nothing b) (number_is one begun) (sym begun.book) in
-    let done : answer (model one) 0 (event.Done (next point) outcome.Made) ends.reply ≡ ends =
-    ap (λ (o : Option Job). answer_done (model one) outcome.Made ends.reply o) runs ∙ same_ends in
-    let two : Point = (end_made (next point) make one).point in
-    let lawful : IsLawful two = lawful-entered (event.Done (next point) outcome.Made) ends one begun done (job, runs, refl, refl)
-    (finish-clock (next one) make outcome.Made recorded.Nothing one.book) in
-    let led_two = led (event.Done (next point) outcome.Made) ends one done in
+    let served : Served = finish (next one) make ends recorded.Nothing one.book in
+    let same_ends : finish ((model one).book.first + length (model one).history) make ends (recorded_as served.reply) (model one).book ≡ served =
+    ap (λ how. finish ((model one).book.first + length (model one).history) make ends how (model one).book)
+    (nothing_recorded (next one) path ends one.book (find (is_declared path stamp) one.book.rows))
+    ∙ ap₂ (λ (n : ℕ) (b : Book). finish n make ends recorded.Nothing b) (number_is one begun) (sym begun.book) in
+    let done : answer (model one) 0 (event.Done (next point) ends) served.reply ≡ served =
+    ap (λ (o : Option Job). answer_done (model one) ends served.reply o) runs ∙ same_ends in
+    let two : Point = (end_job (next point) make ends one).point in
+    let lawful : IsLawful two = lawful-entered (event.Done (next point) ends) served one begun done (job, runs, refl, may)
+    (finish-clock (next one) make ends recorded.Nothing one.book) in
+    let led_two = led (event.Done (next point) ends) served one done in
     let found = first_make_found idle point.book.rows point.book.tickets path stamp apart is in
-    let fresh : ends.reply ≡ reply.Fresh recorded.Nothing =
-    ap (λ (o : Option Row). (end_make (next one) path outcome.Made recorded.Nothing one.book o).reply) found.2 in
-    let after_all : Yard = ended (next point) outcome.Made ends.reply ends.book.rows (model one).yard
+    let fresh : served.reply ≡ reply.Fresh recorded.Nothing =
+    ap (λ (o : Option Row). (end_make (next one) path ends recorded.Nothing one.book o).reply) found.2 in
+    let after_all : Yard = ended (next point) ends served.reply served.book.rows (model one).yard
     (find (is_job (next point)) (model one).yard.jobs) in
     let left : Yard = record ((model one).yard) { jobs = filter (is_other_job (next point)) (model one).yard.jobs } in
-    let yard_two : after_all ≡ left =
-    ap (λ (o : Option Job). ended (next point) outcome.Made ends.reply ends.book.rows (model one).yard o) runs
-    ∙ ap (λ (o : Option Lent). returned o ends.book.rows (made_yard path outcome.Made ends.reply left))
+    let yard_two : after_all ≡ made_yard path ends (reply.Fresh recorded.Nothing) left =
+    ap (λ (o : Option Job). ended (next point) ends served.reply served.book.rows (model one).yard o) runs
+    ∙ ap (λ (o : Option Lent). returned o served.book.rows (made_yard path ends served.reply left))
     (own_way stamp (model point).book.rows (model point).yard.ways at.ways)
-    ∙ ap (λ (r : Reply). made_yard path outcome.Made r left) fresh in
+    ∙ ap (λ (r : Reply). made_yard path ends r left) fresh in
+    let same : IsSameWork left (made_yard path ends (reply.Fresh recorded.Nothing) left) = made_same path ends left in
     record {
       lawful = lawful;
-      jobs = ap (λ (p : ModelPoint). p.yard.jobs) led_two ∙ ap (λ (y : Yard). y.jobs) yard_two
+      jobs = ap (λ (p : ModelPoint). p.yard.jobs) led_two ∙ ap (λ (y : Yard). y.jobs) yard_two ∙ same.jobs
           ∙ ap (λ (js : List Job). filter (is_other_job (next point)) js) jobs_one
           ∙ ap (λ (b : Bool). cond (not b) (job ∷ []) []) mine;
-      debris = ap (λ (p : ModelPoint). p.yard.debris) led_two ∙ ap (λ (y : Yard). y.debris) yard_two ∙ debris_one;
-      ways = ap (λ (p : ModelPoint). list_all is_own_way p.yard.ways) led_two ∙ ap (λ (y : Yard). list_all is_own_way y.ways) yard_two ∙ ways_one;
+      debris = ap (λ (p : ModelPoint). p.yard.debris) led_two ∙ ap (λ (y : Yard). y.debris) yard_two ∙ same.debris ∙ debris_one;
+      ways = ap (λ (p : ModelPoint). list_all is_own_way p.yard.ways) led_two ∙ ap (λ (y : Yard). list_all is_own_way y.ways) yard_two
+          ∙ ap (λ (ws : List WayOf). list_all is_own_way ws) same.ways ∙ ways_one;
     }
+
+-- ---- how a make ends
+
+-- whether a make may end so, if it ends
+abbrev may_fail_so : Option Outcome → Bool
+may_fail_so None = true
+may_fail_so (Some ends) = may_end (task.Make [] 0) ends
+
+bytes_may : (wanted : Digest) (bytes : List ℕ) → may_fail_so (bytes_failure wanted bytes) ≡ true
+bytes_may wanted bytes =
+    elim (same_digest (digest_of bytes) wanted) as
+    (λ b. may_fail_so (cond b None (Some (outcome.Corrupt wanted (digest_of bytes)))) ≡ true) [ true ↦ refl | false ↦ refl ]
+
+fetch_may : (wanted : Digest) (found : Option (List ℕ)) → may_fail_so (fetch_failure wanted found) ≡ true
+fetch_may wanted None = refl
+fetch_may wanted (Some bytes) = bytes_may wanted bytes
+
+file_may : (blobs : Blobs) (digest : Digest) (from : Supply) → may_fail_so (file_failure blobs digest from) ≡ true
+file_may blobs digest supply.Empty = refl
+file_may blobs digest supply.Held = refl
+file_may blobs digest supply.Store = fetch_may digest (given blobs digest)
+file_may blobs digest (supply.Loan rel) = refl
+
+act_may : (blobs : Blobs) (one : Act) → may_fail_so (act_failure blobs one) ≡ true
+act_may blobs act.Wipe = refl
+act_may blobs (act.Dir rel) = refl
+act_may blobs (act.Link rel target) = refl
+act_may blobs (act.File rel digest exec from) = file_may blobs digest from
+act_may blobs act.Sync = refl
+
+-- a make doesn't end wiped
+outcome_may : (path : List (List ℕ)) (stamp : ℕ) (blobs : Blobs) (acts : List Act) → may_end (task.Make path stamp) (outcome_of blobs acts) ≡ true
+outcome_may path stamp blobs [] = refl
+outcome_may path stamp blobs (one ∷ acts) =
+    elim (act_failure blobs one) as
+    (λ o. may_fail_so o ≡ true → may_end (task.Make path stamp) (or_made o (outcome_of blobs acts)) ≡ true) [
+      | None ↦ λ may. outcome_may path stamp blobs acts
+      | Some ends ↦ λ may. any_make ends may
+    ] (act_may blobs one)
+  where
+    any_make : (ends : Outcome) → may_end (task.Make [] 0) ends ≡ true → may_end (task.Make path stamp) ends ≡ true
+    any_make outcome.Made may = refl
+    any_make outcome.Wiped may = absurd cc
+    any_make (outcome.Missing digest) may = refl
+    any_make (outcome.Corrupt wanted found) may = refl
+    any_make (outcome.Fault note) may = refl
+    any_make outcome.NoMemory may = refl
 
 -- the rows of a lawful run are apart
 lawful_apart : (point : Point) → IsLawful point → are_apart point.book.rows ≡ true
@@ -348,63 +426,57 @@ lawful_apart point lawful =
     ap (λ (b : Book). are_apart b.rows) lawful.book ∙ history_apart (opened new_daemon) point.history refl
 
 -- what comes first where no job runs and nothing is debris leaves a run legal
-task-at : (task : Task) (point : Point) → IsLegalAt point → first_task idle point.book ≡ Some task → IsLegalAt (made task point)
-task-at (task.Make path stamp) point at is = made-at path stamp point at (lawful_apart point at.lawful) is
-task-at (task.Wipe path) point at is = absurd (no_wipe idle point.book.rows point.book.tickets path is)
+task-at : (wanted : Task) (scene : Scene) → IsLegalAt scene.point → first_task idle scene.point.book ≡ Some wanted → IsLegalAt (made wanted scene).point
+task-at (task.Make path stamp) scene at is =
+    let acts : List Act = acts_of (task.Make path stamp) scene.point in
+    worked-at path stamp (outcome_of scene.blobs acts) scene.point at (lawful_apart scene.point at.lawful) is (outcome_may path stamp scene.blobs acts)
+task-at (task.Wipe path) scene at is = absurd (no_wipe idle scene.point.book.rows scene.point.book.tickets path is)
 
 -- and by the first make, if there is one
-pub make_first-at : (point : Point) → IsLegalAt point → IsLegalAt (make_first point)
-make_first-at point at =
-    elim (first_task idle point.book) as
-    (λ o. first_task idle point.book ≡ o → IsLegalAt (made_if point o)) [
+pub make_first-at : (scene : Scene) → IsLegalAt scene.point → IsLegalAt (make_first scene).point
+make_first-at scene at =
+    elim (first_task idle scene.point.book) as
+    (λ o. first_task idle scene.point.book ≡ o → IsLegalAt (made_if scene o).point) [
       | None ↦ λ is. at
-      | Some task ↦ λ is. task-at task point at is
+      | Some wanted ↦ λ is. task-at wanted scene at is
     ] refl
 
-pub makes-at : (count : ℕ) (point : Point) → IsLegalAt point → IsLegalAt (makes count point)
-makes-at zero point at = at
-makes-at (suc count) point at = makes-at count (make_first point) (make_first-at point at)
+pub makes-at : (count : ℕ) (scene : Scene) → IsLegalAt scene.point → IsLegalAt (makes count scene).point
+makes-at zero scene at = at
+makes-at (suc count) scene at = makes-at count (make_first scene) (make_first-at scene at)
 
-pub drain-at : (point : Point) → IsLegalAt point → IsLegalAt (drain point)
-drain-at point at = makes-at (count_by is_open point.book.tickets) point at
+pub drain-at : (scene : Scene) → IsLegalAt scene.point → IsLegalAt (drain scene).point
+drain-at scene at = makes-at (count_by is_open scene.point.book.tickets) scene at
 
 -- and by an item
-pub tell_item-at : (it : Item) (point : Point) → IsLegalAt point → IsLegalAt (tell_item it point).point
-tell_item-at (item.Request asked) point at =
-    elim (is_not_yet asked point.book) as
-    (λ b. is_not_yet asked point.book ≡ b → IsLegalAt (cond b (told_not_yet point) (tell_step point (ask (asked_of asked) point))).point) [
+pub tell_item-at : (it : Item) (scene : Scene) → IsLegalAt scene.point → IsLegalAt (tell_item it scene).scene.point
+tell_item-at (item.Request asked) scene at =
+    elim (is_not_yet asked scene.point.book) as
+    (λ b. is_not_yet asked scene.point.book ≡ b → IsLegalAt (cond b (told_not_yet scene) (tell_asked (asked_of asked) scene)).scene.point) [
       | true ↦ λ later. at
-      | false ↦ λ now. ask-at asked point at now
+      | false ↦ λ now. ask-at asked scene.point at now
     ] refl
-tell_item-at item.Drain point at = drain-at point at
-tell_item-at (item.Show path) point at = at
-tell_item-at (item.Blob bytes) point at = at
-tell_item-at (item.Lie digest bytes) point at = at
-tell_item-at (item.At moment) point at = at
-tell_item-at (item.Step worker) point at = at
-tell_item-at item.Asks point at = at
-tell_item-at (item.Fail device k) point at = at
-tell_item-at (item.Stop k pick) point at = at
-tell_item-at item.Restart point at = at
+tell_item-at item.Drain scene at = drain-at scene at
+tell_item-at (item.Show path) scene at = at
+tell_item-at (item.Blob bytes) scene at = at
+tell_item-at (item.Lie digest bytes) scene at = at
+tell_item-at (item.At moment) scene at = at
+tell_item-at (item.Step worker) scene at = at
+tell_item-at item.Asks scene at = at
+tell_item-at (item.Fail device k) scene at = at
+tell_item-at (item.Stop k pick) scene at = at
+tell_item-at item.Restart scene at = at
 
 -- and by a line
-pub tell-at : (read : Line) (point : Point) → IsLegalAt point → IsLegalAt (tell read point).point
-tell-at line.Skip point at = at
-tell-at line.End point at = at
-tell-at line.Unread point at = at
-tell-at (line.Item it) point at = tell_item-at it point at
-tell-at line.NoMemory point at = at
+pub tell-at : (read : Line) (scene : Scene) → IsLegalAt scene.point → IsLegalAt (tell read scene).scene.point
+tell-at line.Skip scene at = at
+tell-at line.End scene at = at
+tell-at line.Unread scene at = at
+tell-at (line.Item it) scene at = tell_item-at it scene at
+tell-at line.NoMemory scene at = at
 
 -- and by some lines
-pub tell_lines-at : (lines : List (List ℕ)) (point : Point) → IsLegalAt point → IsLegalAt (tell_lines lines point).point
-tell_lines-at [] point at = at
-tell_lines-at (text ∷ texts) point at =
-    tell_lines-at texts (tell (line_of text) point).point (tell-at (line_of text) point at)
-
--- the history of a run is legal, and the run's book is the book of it
-pub run-legal : (lines : List (List ℕ)) →
-    IsLegal new_daemon (tell_lines lines start).point.history
-    × ((tell_lines lines start).point.book ≡ book_of new_daemon (tell_lines lines start).point.history)
-run-legal lines =
-    let at : IsLegalAt (tell_lines lines start).point = tell_lines-at lines start start-at in
-    (at.lawful.legal, at.lawful.book)
+pub tell_lines-at : (lines : List (List ℕ)) (scene : Scene) → IsLegalAt scene.point → IsLegalAt (tell_lines lines scene).scene.point
+tell_lines-at [] scene at = at
+tell_lines-at (text ∷ texts) scene at =
+    tell_lines-at texts (tell (line_of text) scene).scene (tell-at (line_of text) scene at)

@@ -14,9 +14,9 @@ use Rattle.buckd.specs.declared.replay.Ending.TheVariants as ending
 use Rattle.buckd.specs.declared.session.Fed.{Fed}
 use Rattle.buckd.specs.declared.session.Fed.TheVariants as fed
 use Rattle.buckd.specs.declared.session.Session.{Session}
-use Rattle.buckd.specs.Daemon.{point_of}
+use Rattle.buckd.specs.Daemon.{scene_of}
 use Rattle.buckd.specs.Lines.{has_end, lines_of, script_lines, whole_lines}
-use Rattle.buckd.specs.Run.{Point}
+use Rattle.buckd.specs.Run.{Scene}
 use Rattle.buckd.specs.Streams.{Feeds, FeedsLast, Flows, Follows, IsSoundAfter, Served, Stands, answered, fed_failed}
 use Rattle.buckd.specs.Replay.{Answers, HasRun, IsAt, IsFinished, IsHeldBy, IsLegalWhere, IsSoundAtEnd, IsWithin, Leaves, LeavesAt, Ran, RanOver, Replays, ReplaysBytes, end_of, has_run, input_failed, is_lost, is_sink_fault, is_source_fault, is_status, output_failed, status_of}
 use Rattle.buckd.proofs.LineLemmas.{script_all, script_cut, script_ended, script_front}
@@ -235,14 +235,14 @@ begun limit bytes after before now s ending.Cut kept ran =
     record { front = script_lines limit bytes; longer = longer_same (script_lines limit bytes); served = ran.1.served }
 
 pub ran_failed : (limit : ℕ) (all after before mid now : Option (List ℕ)) (old new : Session) (e : Ending) → is_lost e ≡ false
-    → point_of new.daemon ≡ point_of old.daemon
+    → scene_of new.daemon ≡ scene_of old.daemon
     → ((from : Option (List ℕ)) (text : List ℕ) → Flows from mid old.gathered.items text → GrowsInPart from now text)
     → Ran limit all after before mid old e → Ran limit all after before now new ending.SinkFault
-ran_failed limit None after before mid now old new e kept point flows ran = tt
-ran_failed limit (Some bytes) after before mid now old new e kept point flows ran =
+ran_failed limit None after before mid now old new e kept scene flows ran = tt
+ran_failed limit (Some bytes) after before mid now old new e kept scene flows ran =
     let is = begun limit bytes after before mid old e kept ran in
     broke_longer is.front (script_lines limit bytes) before now new is.longer
-    (served_broke is.front before mid now old new point is.served (flows before (answered is.front).text))
+    (served_broke is.front before mid now old new scene is.served (flows before (answered is.front).text))
 
 pub ran_memory : (limit : ℕ) (all after before mid now : Option (List ℕ)) (old new : Session) (e : Ending) → is_lost e ≡ false
     → ((from : Option (List ℕ)) (text : List ℕ) → Flows from mid old.gathered.items text → GrowsInPart from now text)
@@ -273,25 +273,25 @@ over_flows limit bytes after before mid now old new ending.Cut kept step ran =
     (ran.0, record { going = ran.1.going; served = step (script_lines limit bytes) ran.1.served })
 
 pub ran_flows : (limit : ℕ) (all after before mid now : Option (List ℕ)) (old new : Session) (e : Ending) → is_lost e ≡ false
-    → point_of new.daemon ≡ point_of old.daemon
+    → scene_of new.daemon ≡ scene_of old.daemon
     → ((from : Option (List ℕ)) (text : List ℕ) → Flows from mid old.gathered.items text → Flows from now new.gathered.items text)
     → Ran limit all after before mid old e → Ran limit all after before now new e
-ran_flows limit None after before mid now old new e kept point flows ran = tt
-ran_flows limit (Some bytes) after before mid now old new e kept point flows ran =
+ran_flows limit None after before mid now old new e kept scene flows ran = tt
+ran_flows limit (Some bytes) after before mid now old new e kept scene flows ran =
     over_flows limit bytes after before mid now old new e kept
-    (λ lines served. served_flows lines before mid now old new point served (flows before (answered lines).text)) ran
+    (λ lines served. served_flows lines before mid now old new scene served (flows before (answered lines).text)) ran
 
 -- ---- what is left
 
-answers : (lines : List (List ℕ)) (before now : Option (List ℕ)) (s : Session) (ended : Ended) → s.gathered.items ≡ [] → HasRun (point_of s.daemon) ended
+answers : (lines : List (List ℕ)) (before now : Option (List ℕ)) (s : Session) (ended : Ended) → s.gathered.items ≡ [] → HasRun (scene_of s.daemon) ended
     → Served lines before now s → Answers lines before now ended
 answers lines before now s ended out has served = record {
   text = flows_whole before now s.gathered.items (answered lines).text out served.text;
-  run = subst (λ (p : Point). IsAt p ended.run) served.point has.at;
+  at = subst (λ (s : Scene). IsAt s ended) served.scene has.at;
 }
 
 replays_bytes : (limit : ℕ) (bytes : List ℕ) (after before now : Option (List ℕ)) (s : Session) (e : Ending) (ended : Ended) → ended.status ≡ status_of e
-    → LeavesAt e (point_of s.daemon) ended → IsFinished e s.gathered.items → RanOver limit bytes after before now s e
+    → LeavesAt e (scene_of s.daemon) ended → IsFinished e s.gathered.items → RanOver limit bytes after before now s e
     → ReplaysBytes limit bytes after before now ended
 replays_bytes limit bytes after before now s ending.End ended is leaves out ran = record {
   at_end = λ h. (ran.0, answers (script_lines limit bytes) before now s ended out leaves ran.1);
@@ -334,7 +334,7 @@ replays_bytes limit bytes after before now s ending.SinkFault ended is leaves ou
     front = ran.front;
     more = ran.more;
     parts = ran.parts;
-    run = subst (λ (p : Point). IsAt p ended.run) ran.point leaves.at;
+    at = subst (λ (s : Scene). IsAt s ended) ran.scene leaves.at;
   };
   no_end = λ h. absurd (omega arith);
   cut = λ h. absurd (omega arith);
@@ -357,26 +357,26 @@ replays_bytes limit bytes after before now s ending.Cut ended is leaves out ran 
 }
 
 pub replays : (limit : ℕ) (all after before now : Option (List ℕ)) (s : Session) (e : Ending) (ended : Ended) → ended.status ≡ status_of e
-    → LeavesAt e (point_of s.daemon) ended → IsFinished e s.gathered.items → Ran limit all after before now s e
+    → LeavesAt e (scene_of s.daemon) ended → IsFinished e s.gathered.items → Ran limit all after before now s e
     → Replays limit all after before now ended
 replays limit None after before now s e ended is leaves out ran = tt
 replays limit (Some bytes) after before now s e ended is leaves out ran = replays_bytes limit bytes after before now s e ended is leaves out ran
 
-has_left : (ended : Ended) (point : Point) → has_run ended.status ≡ true → HasRun point ended → Leaves ended
-has_left ended point is has = record { run = has.run ∙ sym is; disk = has.disk ∙ sym is; held = has.held; legal = has.legal }
+has_left : (ended : Ended) (scene : Scene) → has_run ended.status ≡ true → HasRun scene ended → Leaves ended
+has_left ended scene is has = record { run = has.run ∙ sym is; disk = has.disk ∙ sym is; held = has.held; legal = has.legal }
 
-pub leaves_by : (e : Ending) (point : Point) (ended : Ended) → ended.status ≡ status_of e → LeavesAt e point ended → Leaves ended
-leaves_by ending.End point ended is leaves = has_left ended point (ap has_run is) leaves
-leaves_by ending.NoMemory point ended is leaves = record {
+pub leaves_by : (e : Ending) (scene : Scene) (ended : Ended) → ended.status ≡ status_of e → LeavesAt e scene ended → Leaves ended
+leaves_by ending.End scene ended is leaves = has_left ended scene (ap has_run is) leaves
+leaves_by ending.NoMemory scene ended is leaves = record {
   run = ap is_some leaves.run ∙ sym (ap has_run is);
   disk = ap is_some leaves.disk ∙ sym (ap has_run is);
   held = subst (λ (run : Option Run). IsHeldBy run ended.disk) (sym leaves.run) tt;
   legal = subst IsLegalWhere (sym leaves.run) tt;
 }
-leaves_by ending.SourceFault point ended is leaves = has_left ended point (ap has_run is) leaves
-leaves_by ending.SinkFault point ended is leaves = has_left ended point (ap has_run is) leaves
-leaves_by ending.NoEnd point ended is leaves = has_left ended point (ap has_run is) leaves
-leaves_by ending.Cut point ended is leaves = has_left ended point (ap has_run is) leaves
+leaves_by ending.SourceFault scene ended is leaves = has_left ended scene (ap has_run is) leaves
+leaves_by ending.SinkFault scene ended is leaves = has_left ended scene (ap has_run is) leaves
+leaves_by ending.NoEnd scene ended is leaves = has_left ended scene (ap has_run is) leaves
+leaves_by ending.Cut scene ended is leaves = has_left ended scene (ap has_run is) leaves
 
 pub status_by : (e : Ending) (status : ℕ) → status ≡ status_of e → is_status status ≡ true
 status_by ending.End status is = ap is_status is

@@ -18,26 +18,26 @@ use Rattle.tree_words.specs.Rests.{words_of}
 use Rattle.buckd.specs.declared.session.Fed.{Fed}
 use Rattle.buckd.specs.declared.session.Fed.TheVariants as fed
 use Rattle.buckd.specs.declared.session.Session.{Session}
-use Rattle.buckd.specs.Daemon.{point_of}
+use Rattle.buckd.specs.Daemon.{scene_of}
 use Rattle.buckd.specs.Lines.{Cuts, IsLine, before_end, has_end, last_line, line_of, lines_of, whole_lines}
-use Rattle.buckd.specs.Run.{Point, start, tell, tell_lines}
+use Rattle.buckd.specs.Run.{Scene, start, tell, tell_lines}
 use Rattle.buckd.specs.Streams.{AnswersInPart, Broke, Ends, Feeds, Flowed, Flows, Served, Serves, Stands, answered, ends, fed_failed, gone_to, kept}
 use Rattle.buckd.proofs.LineLemmas.{before_cons, before_end_closed, before_end_goes_on, before_end_none, before_end_open, end_is, has_end_append, keep_more, last_more, last_newline, lines_split, whole_go_on, whole_more, whole_newline}
 
 -- ---- lines one after another
 
-pub tell_point : (lines more : List (List ℕ)) (point : Point)
-    → (tell_lines (lines ++ more) point).point ≡ (tell_lines more (tell_lines lines point).point).point
-tell_point [] more point = refl
-tell_point (text ∷ lines) more point = tell_point lines more (tell (line_of text) point).point
+pub tell_scene : (lines more : List (List ℕ)) (scene : Scene)
+    → (tell_lines (lines ++ more) scene).scene ≡ (tell_lines more (tell_lines lines scene).scene).scene
+tell_scene [] more scene = refl
+tell_scene (text ∷ lines) more scene = tell_scene lines more (tell (line_of text) scene).scene
 
-pub tell_text : (lines more : List (List ℕ)) (point : Point)
-    → (tell_lines (lines ++ more) point).text ≡ (tell_lines lines point).text ++ (tell_lines more (tell_lines lines point).point).text
-tell_text [] more point = refl
-tell_text (text ∷ lines) more point =
-    ap (λ (t : List ℕ). (tell (line_of text) point).text ++ t) (tell_text lines more (tell (line_of text) point).point)
-    ∙ sym (append_assoc (tell (line_of text) point).text (tell_lines lines (tell (line_of text) point).point).text
-    (tell_lines more (tell_lines lines (tell (line_of text) point).point).point).text)
+pub tell_text : (lines more : List (List ℕ)) (scene : Scene)
+    → (tell_lines (lines ++ more) scene).text ≡ (tell_lines lines scene).text ++ (tell_lines more (tell_lines lines scene).scene).text
+tell_text [] more scene = refl
+tell_text (text ∷ lines) more scene =
+    ap (λ (t : List ℕ). (tell (line_of text) scene).text ++ t) (tell_text lines more (tell (line_of text) scene).scene)
+    ∙ sym (append_assoc (tell (line_of text) scene).text (tell_lines lines (tell (line_of text) scene).scene).text
+    (tell_lines more (tell_lines lines (tell (line_of text) scene).scene).scene).text)
 
 -- ---- what a line says, by as much of it as is kept
 
@@ -71,35 +71,35 @@ ends_line text =
 
 -- ---- one more line
 
-one_point : (text : List ℕ) (point : Point) → (tell_lines (before_end (text ∷ [])) point).point ≡ (tell (line_of text) point).point
-one_point text point = ap (λ (ls : List (List ℕ)). (tell_lines ls point).point) (before_cons text []) ∙ by_test (is_end text) refl
+one_scene : (text : List ℕ) (scene : Scene) → (tell_lines (before_end (text ∷ [])) scene).scene ≡ (tell (line_of text) scene).scene
+one_scene text scene = ap (λ (ls : List (List ℕ)). (tell_lines ls scene).scene) (before_cons text []) ∙ by_test (is_end text) refl
   where
-    by_test : (t : Bool) → is_end text ≡ t → (tell_lines (cond t [] (text ∷ [])) point).point ≡ (tell (line_of text) point).point
-    by_test true e = sym (ap (λ (l : List ℕ). (tell (line_of l) point).point) (end_is text e))
+    by_test : (t : Bool) → is_end text ≡ t → (tell_lines (cond t [] (text ∷ [])) scene).scene ≡ (tell (line_of text) scene).scene
+    by_test true e = sym (ap (λ (l : List ℕ). (tell (line_of l) scene).scene) (end_is text e))
     by_test false e = refl
 
-one_text : (text : List ℕ) (point : Point) → (tell_lines (before_end (text ∷ [])) point).text ≡ (tell (line_of text) point).text
-one_text text point = ap (λ (ls : List (List ℕ)). (tell_lines ls point).text) (before_cons text []) ∙ by_test (is_end text) refl
+one_text : (text : List ℕ) (scene : Scene) → (tell_lines (before_end (text ∷ [])) scene).text ≡ (tell (line_of text) scene).text
+one_text text scene = ap (λ (ls : List (List ℕ)). (tell_lines ls scene).text) (before_cons text []) ∙ by_test (is_end text) refl
   where
-    by_test : (t : Bool) → is_end text ≡ t → (tell_lines (cond t [] (text ∷ [])) point).text ≡ (tell (line_of text) point).text
-    by_test true e = sym (ap (λ (l : List ℕ). (tell (line_of l) point).text) (end_is text e))
-    by_test false e = append-nil (tell (line_of text) point).text
+    by_test : (t : Bool) → is_end text ≡ t → (tell_lines (cond t [] (text ∷ [])) scene).text ≡ (tell (line_of text) scene).text
+    by_test true e = sym (ap (λ (l : List ℕ). (tell (line_of l) scene).text) (end_is text e))
+    by_test false e = append-nil (tell (line_of text) scene).text
 
-answered_point : (lines : List (List ℕ)) (text : List ℕ) → has_end lines ≡ false
-    → (answered (lines ++ text ∷ [])).point ≡ (tell (line_of text) (answered lines).point).point
-answered_point lines text open_ =
-    ap (λ (ls : List (List ℕ)). (tell_lines ls start).point) (before_end_open lines (text ∷ []) open_)
-    ∙ tell_point lines (before_end (text ∷ [])) start
-    ∙ one_point text (tell_lines lines start).point
-    ∙ ap (λ (ls : List (List ℕ)). (tell (line_of text) (tell_lines ls start).point).point) (sym (before_end_none lines open_))
+answered_scene : (lines : List (List ℕ)) (text : List ℕ) → has_end lines ≡ false
+    → (answered (lines ++ text ∷ [])).scene ≡ (tell (line_of text) (answered lines).scene).scene
+answered_scene lines text open_ =
+    ap (λ (ls : List (List ℕ)). (tell_lines ls start).scene) (before_end_open lines (text ∷ []) open_)
+    ∙ tell_scene lines (before_end (text ∷ [])) start
+    ∙ one_scene text (tell_lines lines start).scene
+    ∙ ap (λ (ls : List (List ℕ)). (tell (line_of text) (tell_lines ls start).scene).scene) (sym (before_end_none lines open_))
 
 answered_text : (lines : List (List ℕ)) (text : List ℕ) → has_end lines ≡ false
-    → (answered (lines ++ text ∷ [])).text ≡ (answered lines).text ++ (tell (line_of text) (answered lines).point).text
+    → (answered (lines ++ text ∷ [])).text ≡ (answered lines).text ++ (tell (line_of text) (answered lines).scene).text
 answered_text lines text open_ =
     ap (λ (ls : List (List ℕ)). (tell_lines ls start).text) (before_end_open lines (text ∷ []) open_)
     ∙ tell_text lines (before_end (text ∷ [])) start
-    ∙ ap (λ (t : List ℕ). (tell_lines lines start).text ++ t) (one_text text (tell_lines lines start).point)
-    ∙ ap (λ (ls : List (List ℕ)). (tell_lines ls start).text ++ (tell (line_of text) (tell_lines ls start).point).text) (sym (before_end_none lines open_))
+    ∙ ap (λ (t : List ℕ). (tell_lines lines start).text ++ t) (one_text text (tell_lines lines start).scene)
+    ∙ ap (λ (ls : List (List ℕ)). (tell_lines ls start).text ++ (tell (line_of text) (tell_lines ls start).scene).text) (sym (before_end_none lines open_))
 
 has_end_one : (lines : List (List ℕ)) (text : List ℕ) → has_end lines ≡ false → has_end (lines ++ text ∷ []) ≡ is_end text
 has_end_one lines text open_ = has_end_append lines (text ∷ []) ∙ by_test (has_end lines) (is_end text) open_
@@ -166,12 +166,12 @@ pub serves_more : (lines : List (List ℕ)) (text said : List ℕ) (before now :
     → has_end lines ≡ false → line_of said ≡ line_of text → Served lines before now old → Serves said old.daemon old.gathered.items new ended
     → Served (lines ++ text ∷ []) before now new
 serves_more lines text said before now old new ended open_ same served serves = record {
-  point = serves.point ∙ ap (λ (l : Line). (tell l (point_of old.daemon)).point) same
-      ∙ ap (λ (p : Point). (tell (line_of text) p).point) served.point ∙ sym (answered_point lines text open_);
-  text = flows_more before now old.gathered.items (answered lines).text (tell (line_of text) (answered lines).point).text new.gathered.items
+  scene = serves.scene ∙ ap (λ (l : Line). (tell l (scene_of old.daemon)).scene) same
+      ∙ ap (λ (p : Scene). (tell (line_of text) p).scene) served.scene ∙ sym (answered_scene lines text open_);
+  text = flows_more before now old.gathered.items (answered lines).text (tell (line_of text) (answered lines).scene).text new.gathered.items
       (answered (lines ++ text ∷ [])).text
-      (serves.text ∙ ap (λ (l : Line). old.gathered.items ++ (tell l (point_of old.daemon)).text) same
-      ∙ ap (λ (p : Point). old.gathered.items ++ (tell (line_of text) p).text) served.point)
+      (serves.text ∙ ap (λ (l : Line). old.gathered.items ++ (tell l (scene_of old.daemon)).text) same
+      ∙ ap (λ (p : Scene). old.gathered.items ++ (tell (line_of text) p).text) served.scene)
       (answered_text lines text open_) served.text;
 }
 
@@ -203,7 +203,7 @@ longer_same lines = record { rest = []; parts = sym (append-nil (before_end line
 
 pub part_longer : (lines longer : List (List ℕ)) (before now : Option (List ℕ)) → Longer lines longer → AnswersInPart lines before now → AnswersInPart longer before now
 part_longer lines longer before now long part =
-    in_part_more before now (answered lines).text (tell_lines long.rest (answered lines).point).text (answered longer).text
+    in_part_more before now (answered lines).text (tell_lines long.rest (answered lines).scene).text (answered longer).text
     (ap (λ (ls : List (List ℕ)). (tell_lines ls start).text) long.parts ∙ tell_text (before_end lines) long.rest start) part
 
 pub broke_longer : (lines longer : List (List ℕ)) (before now : Option (List ℕ)) (s : Session) → Longer lines longer → Broke lines before now s → Broke longer before now s
@@ -211,41 +211,41 @@ broke_longer lines longer before now s long broke = record {
   front = broke.front;
   more = broke.more ++ long.rest;
   parts = long.parts ∙ ap (λ (ls : List (List ℕ)). ls ++ long.rest) broke.parts ∙ append_assoc broke.front broke.more long.rest;
-  point = broke.point;
+  scene = broke.scene;
   text = broke.text;
 }
 
 pub broke_part : (lines : List (List ℕ)) (before now : Option (List ℕ)) (s : Session) → Broke lines before now s → AnswersInPart lines before now
 broke_part lines before now s broke =
-    in_part_more before now (tell_lines broke.front start).text (tell_lines broke.more (tell_lines broke.front start).point).text (answered lines).text
+    in_part_more before now (tell_lines broke.front start).text (tell_lines broke.more (tell_lines broke.front start).scene).text (answered lines).text
     (ap (λ (ls : List (List ℕ)). (tell_lines ls start).text) broke.parts ∙ tell_text broke.front broke.more start) broke.text
 
 pub served_part : (lines : List (List ℕ)) (before now : Option (List ℕ)) (s : Session) → Served lines before now s → AnswersInPart lines before now
 served_part lines before now s served = flows_in_part before now s.gathered.items (answered lines).text served.text
 
 -- a run whose output failed
-pub served_broke : (lines : List (List ℕ)) (before mid now : Option (List ℕ)) (old new : Session) → point_of new.daemon ≡ point_of old.daemon
+pub served_broke : (lines : List (List ℕ)) (before mid now : Option (List ℕ)) (old new : Session) → scene_of new.daemon ≡ scene_of old.daemon
     → Served lines before mid old → (Flows before mid old.gathered.items (answered lines).text → GrowsInPart before now (answered lines).text)
     → Broke lines before now new
 served_broke lines before mid now old new same served broke = record {
   front = before_end lines;
   more = [];
   parts = sym (append-nil (before_end lines));
-  point = same ∙ served.point;
+  scene = same ∙ served.scene;
   text = broke served.text;
 }
 
 -- the same run, with other text gathered
-pub served_flows : (lines : List (List ℕ)) (before mid now : Option (List ℕ)) (old new : Session) → point_of new.daemon ≡ point_of old.daemon
+pub served_flows : (lines : List (List ℕ)) (before mid now : Option (List ℕ)) (old new : Session) → scene_of new.daemon ≡ scene_of old.daemon
     → Served lines before mid old → (Flows before mid old.gathered.items (answered lines).text → Flows before now new.gathered.items (answered lines).text)
     → Served lines before now new
-served_flows lines before mid now old new same served flows = record { point = same ∙ served.point; text = flows served.text }
+served_flows lines before mid now old new same served flows = record { scene = same ∙ served.scene; text = flows served.text }
 
 -- lines that are served as others are
 pub served_same : (lines others : List (List ℕ)) (before now : Option (List ℕ)) (s : Session) → before_end others ≡ before_end lines
     → Served lines before now s → Served others before now s
 served_same lines others before now s same served = record {
-  point = served.point ∙ ap (λ (ls : List (List ℕ)). (tell_lines ls start).point) (sym same);
+  scene = served.scene ∙ ap (λ (ls : List (List ℕ)). (tell_lines ls start).scene) (sym same);
   text = subst (λ (ls : List (List ℕ)). Flows before now s.gathered.items (tell_lines ls start).text) (sym same) served.text;
 }
 
@@ -276,11 +276,11 @@ feeds_more read more before now s fed.NoMemory over feeds = part_longer (whole_l
 -- ---- a session
 
 -- a run that begins
-pub stands_new : (out : Option (List ℕ)) (s : Session) → point_of s.daemon ≡ start → s.gathered.items ≡ [] → s.partial.items ≡ [] → Stands [] out out s
-stands_new out s point gathered partial = record {
+pub stands_new : (out : Option (List ℕ)) (s : Session) → scene_of s.daemon ≡ start → s.gathered.items ≡ [] → s.partial.items ≡ [] → Stands [] out out s
+stands_new out s scene gathered partial = record {
   going = refl;
   partial = partial;
-  served = record { point = point; text = by_out out };
+  served = record { scene = scene; text = by_out out };
 }
   where
     by_out : (out : Option (List ℕ)) → Flows out out s.gathered.items []
@@ -294,14 +294,14 @@ kept_more read line partial more is e =
     e ∙ ap (λ (bs : List ℕ). bs ++ take (kept - length bs) line) is ∙ keep_more kept (last_line read) line
 
 pub stands_hold : (read line : List ℕ) (before now : Option (List ℕ)) (old new : Session) → IsLine line
-    → point_of new.daemon ≡ point_of old.daemon → new.gathered.items ≡ old.gathered.items
+    → scene_of new.daemon ≡ scene_of old.daemon → new.gathered.items ≡ old.gathered.items
     → new.partial.items ≡ old.partial.items ++ take (kept - length old.partial.items) line
     → Stands read before now old → Stands (read ++ line) before now new
-stands_hold read line before now old new is point gathered partial stands = record {
+stands_hold read line before now old new is scene gathered partial stands = record {
   going = ap has_end (whole_more read line is) ∙ stands.going;
   partial = kept_more read line old.partial.items new.partial.items stands.partial partial ∙ ap (take kept) (sym (last_more read line is));
   served = subst (λ (ls : List (List ℕ)). Served ls before now new) (sym (whole_more read line is))
-      (served_flows (whole_lines read) before now now old new point stands.served
+      (served_flows (whole_lines read) before now now old new scene stands.served
       (λ flows. subst (λ (bs : List ℕ). Flows before now bs (answered (whole_lines read)).text) (sym gathered) flows));
 }
 
@@ -336,17 +336,17 @@ line_ended read before now s line = record { ended = line.is; served = line.serv
 
 -- text went out behind a line
 pub line_flushed : (read : List ℕ) (before mid now : Option (List ℕ)) (old new : Session) (answer : Put)
-    → point_of new.daemon ≡ point_of old.daemon → new.partial.items ≡ old.partial.items
+    → scene_of new.daemon ≡ scene_of old.daemon → new.partial.items ≡ old.partial.items
     → ((from : Option (List ℕ)) (text : List ℕ) → Flows from mid old.gathered.items text → Flowed from now new.gathered.items text answer)
     → LineServed read before mid old false → Feeds read before now new (gone_to answer)
-line_flushed read before mid now old new put.All point partial flows line = record {
+line_flushed read before mid now old new put.All scene partial flows line = record {
   going = line.is;
   partial = partial ∙ line.empty ∙ ap (take kept) (sym line.none);
-  served = served_flows (whole_lines read) before mid now old new point line.served (flows before (answered (whole_lines read)).text);
+  served = served_flows (whole_lines read) before mid now old new scene line.served (flows before (answered (whole_lines read)).text);
 }
-line_flushed read before mid now old new put.Failed point partial flows line =
-    served_broke (whole_lines read) before mid now old new point line.served (flows before (answered (whole_lines read)).text)
-line_flushed read before mid now old new put.NoMemory point partial flows line = flows before (answered (whole_lines read)).text line.served.text
+line_flushed read before mid now old new put.Failed scene partial flows line =
+    served_broke (whole_lines read) before mid now old new scene line.served (flows before (answered (whole_lines read)).text)
+line_flushed read before mid now old new put.NoMemory scene partial flows line = flows before (answered (whole_lines read)).text line.served.text
 
 pub gone_failed : (answer : Put) → fed_failed (gone_to answer) ≡ put_failed answer
 gone_failed put.All = refl

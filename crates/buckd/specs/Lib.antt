@@ -5,5 +5,8 @@ pub mod Daemon
 pub mod Legal
 pub mod Sound
 pub mod Making
+pub mod Shows
+pub mod Brought
+pub mod Ends
 pub mod Streams
 pub mod Replay

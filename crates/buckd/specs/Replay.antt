@@ -7,7 +7,7 @@ use Rattle.mat_io.specs.declared.answer.Got.TheVariants as got
 use Rattle.mat_io.specs.Streams.{Grows}
 use Rattle.mat_model.specs.Holding.{AreHeld}
 use Rattle.region_port.specs.declared.mem_disk.MemDisk.{MemDisk}
-use Rattle.region_port.specs.Disks.{disk_content}
+use Rattle.region_port.specs.Disks.{disk_content, disk_rough}
 use Rattle.buckd.specs.declared.daemon.Daemon.{Daemon}
 use Rattle.buckd.specs.declared.daemon.Run.{Run}
 use Rattle.buckd.specs.declared.replay.Ended.{Ended}
@@ -19,8 +19,9 @@ use Rattle.buckd.specs.declared.session.Session.{Session}
 use Rattle.script_lang.specs.Spelled.{same_word}
 use Rattle.buckd.specs.Legal.{IsLegalRun}
 use Rattle.buckd.specs.Lines.{before_end, has_end, script_lines, whole_lines}
-use Rattle.buckd.specs.Run.{Point, start, tell_lines}
-use Rattle.buckd.specs.Sound.{IsSound}
+use Rattle.buckd.specs.Making.{shown_by}
+use Rattle.buckd.specs.Run.{Point, Scene, start, tell_lines}
+use Rattle.buckd.specs.Sound.{AreSynced, IsSound}
 use Rattle.buckd.specs.Streams.{AnswersInPart, Broke, Served, answered}
 
 -- ---- a run as it ends
@@ -133,23 +134,25 @@ IsFinished ending.Cut gathered = gathered ≡ []
 abbrev pub run_at : Run → Point
 run_at run = record { book = run.book; history = run.history }
 
--- a run that is there is at a point
-abbrev pub IsAt : Point → Option Run → Type 0
-IsAt point run = IfSome run (λ (r : Run). run_at r ≡ point)
+-- what is left of a run is where it led: its book and history, and what the disk has
+abbrev pub IsAt : Scene → Ended → Type 0
+IsAt scene ended =
+    IfSome ended.run (λ (r : Run). run_at r ≡ scene.point) × IfSome ended.disk (λ (d : MemDisk). shown_by (disk_content d) ≡ scene.disk)
 
--- a disk that is there has what the run's book declares
+-- a disk that is there holds the tree of each row that stands in the run's book, and all of that is synced
 abbrev pub IsHeldBy : Option Run → Option MemDisk → Type 0
-IsHeldBy run disk = IfSome run (λ (r : Run). IfSome disk (λ (d : MemDisk). AreHeld (disk_content d) r.book.rows))
+IsHeldBy run disk =
+    IfSome run (λ (r : Run). IfSome disk (λ (d : MemDisk). AreHeld (disk_content d) r.book.rows × AreSynced (disk_rough d) r.book.rows))
 
 -- a run that is there has a legal history, and the book of it
 abbrev pub IsLegalWhere : Option Run → Type 0
 IsLegalWhere run = IfSome run IsLegalRun
 
--- a run at a point is there, and its disk
-pub record HasRun (point : Point) (ended : Ended) : Type 0 where
+-- a run that led to a scene is there, and its disk
+pub record HasRun (scene : Scene) (ended : Ended) : Type 0 where
   pub run : is_some ended.run ≡ true
   pub disk : is_some ended.disk ≡ true
-  pub at : IsAt point ended.run
+  pub at : IsAt scene ended
   pub held : IsHeldBy ended.run ended.disk
   pub legal : IsLegalWhere ended.run
 
@@ -158,13 +161,13 @@ pub record HasNone (ended : Ended) : Type 0 where
   pub run : ended.run ≡ None
   pub disk : ended.disk ≡ None
 
-abbrev pub LeavesAt : Ending → Point → Ended → Type 0
-LeavesAt ending.End point ended = HasRun point ended
-LeavesAt ending.NoMemory point ended = HasNone ended
-LeavesAt ending.SourceFault point ended = HasRun point ended
-LeavesAt ending.SinkFault point ended = HasRun point ended
-LeavesAt ending.NoEnd point ended = HasRun point ended
-LeavesAt ending.Cut point ended = HasRun point ended
+abbrev pub LeavesAt : Ending → Scene → Ended → Type 0
+LeavesAt ending.End scene ended = HasRun scene ended
+LeavesAt ending.NoMemory scene ended = HasNone ended
+LeavesAt ending.SourceFault scene ended = HasRun scene ended
+LeavesAt ending.SinkFault scene ended = HasRun scene ended
+LeavesAt ending.NoEnd scene ended = HasRun scene ended
+LeavesAt ending.Cut scene ended = HasRun scene ended
 
 -- the statuses with which a script's run ends, and those of them with a run
 abbrev pub has_run : ℕ → Bool
@@ -174,7 +177,7 @@ abbrev pub is_status : ℕ → Bool
 is_status status = has_run status || (status == 1)
 
 -- the run and the disk are there where the status has them, the history is legal and the book is the book of it, and
--- the disk holds what the book says stands
+-- the disk holds the tree of each row that the book says stands, synced
 pub record Leaves (ended : Ended) : Type 0 where
   pub run : is_some ended.run ≡ has_run ended.status
   pub disk : is_some ended.disk ≡ has_run ended.status
@@ -186,7 +189,7 @@ pub record Leaves (ended : Ended) : Type 0 where
 -- some lines were answered: their text went out, and the run is where they lead
 pub record Answers (lines : List (List ℕ)) (before now : Option (List ℕ)) (ended : Ended) : Type 0 where
   pub text : Grows before now (answered lines).text
-  pub run : IsAt (answered lines).point ended.run
+  pub at : IsAt (answered lines).scene ended
 
 -- the input failed once these bytes were taken: their whole lines were answered, and none of them ended the script
 pub record Interrupted (limit : ℕ) (bytes : List ℕ) (after before now : Option (List ℕ)) (ended : Ended) : Type 0 where
@@ -204,7 +207,7 @@ pub record Failed (lines : List (List ℕ)) (before now : Option (List ℕ)) (en
   pub front : List (List ℕ)
   pub more : List (List ℕ)
   pub parts : before_end lines ≡ front ++ more
-  pub run : IsAt (tell_lines front start).point ended.run
+  pub at : IsAt (tell_lines front start).scene ended
 
 -- what the run of a script of these bytes gives, by its status
 pub record ReplaysBytes (limit : ℕ) (bytes : List ℕ) (after before now : Option (List ℕ)) (ended : Ended) : Type 0 where

@@ -7,7 +7,7 @@ use Rattle.buckd.specs.declared.daemon.Daemon.{Daemon}
 use Rattle.buckd.specs.declared.session.Fed.{Fed}
 use Rattle.buckd.specs.declared.session.Fed.TheVariants as fed
 use Rattle.buckd.specs.declared.session.Session.{Session}
-use Rattle.buckd.specs.Daemon.{point_of}
+use Rattle.buckd.specs.Daemon.{scene_of}
 use Rattle.script_lang.specs.declared.items.Line.{Line}
 use Rattle.script_lang.specs.declared.items.Line.TheVariants as line
 use Rattle.buckd.specs.Lines.{before_end, has_end, last_line, line_of, whole_lines}
@@ -59,15 +59,15 @@ ends line.NoMemory = false
 
 -- the bytes of a line were served
 pub record Serves (said : List ℕ) (old : Daemon) (gathered : List ℕ) (new : Session) (ending : Bool) : Type 0 where
-  pub point : point_of new.daemon ≡ (tell (line_of said) (point_of old)).point
-  pub text : new.gathered.items ≡ gathered ++ (tell (line_of said) (point_of old)).text
+  pub scene : scene_of new.daemon ≡ (tell (line_of said) (scene_of old)).scene
+  pub text : new.gathered.items ≡ gathered ++ (tell (line_of said) (scene_of old)).text
   pub partial : new.partial.items ≡ []
   pub ended : ending ≡ ends (line_of said)
   pub sound : IsSound new.daemon
 
 -- these lines were served, and their text is on its way out
 pub record Served (lines : List (List ℕ)) (before now : Option (List ℕ)) (s : Session) : Type 0 where
-  pub point : point_of s.daemon ≡ (answered lines).point
+  pub scene : scene_of s.daemon ≡ (answered lines).scene
   pub text : Flows before now s.gathered.items (answered lines).text
 
 -- these bytes were read: their whole lines were served, none of them ended the script, and the last line is kept
@@ -86,7 +86,7 @@ pub record Broke (lines : List (List ℕ)) (before now : Option (List ℕ)) (s :
   pub front : List (List ℕ)
   pub more : List (List ℕ)
   pub parts : before_end lines ≡ front ++ more
-  pub point : point_of s.daemon ≡ (tell_lines front start).point
+  pub scene : scene_of s.daemon ≡ (tell_lines front start).scene
   pub text : GrowsInPart before now (tell_lines front start).text
 
 -- a front of these lines' text went out

@@ -1,13 +1,12 @@
--- The text of answers and nodes as it is told of an item. Each line of it ends with a newline.
-use Rattle.std.specs.Prelude.{ℕ, zero, suc, ◌==◌, ◌+◌, codes, if◌then◌else◌, List, [], ◌++◌, length}
+-- The text that is told of an item. Each line of it ends with a newline.
+use Rattle.std.specs.Prelude.{ℕ, zero, suc, ◌==◌, ◌+◌, codes, if◌then◌else◌, List, [], ◌++◌}
 use Rattle.std.specs.List.{flat_map}
 use Rattle.std.specs.Option.{option_map_or}
-use Rattle.mat_tree.specs.declared.flat.Flat.{Flat}
 use Rattle.mat_model.specs.declared.answers.Answer.{Answer}
 use Rattle.mat_model.specs.declared.book.Given.{Given}
 use Rattle.mat_model.specs.declared.book.Ticket.{Ticket}
-use Rattle.tree_words.specs.Words.{node_text}
-use Rattle.script_lang.specs.Texts.{answer_text, numbered}
+use Rattle.script_lang.specs.declared.told.Said.{Said}
+use Rattle.script_lang.specs.Texts.{answer_text, numbered, told_text}
 
 -- the line of a ticket that was answered
 abbrev pub answer_line : ℕ → Answer → List ℕ
@@ -25,10 +24,6 @@ abbrev pub answer_lines : ℕ → ℕ → List Ticket → List ℕ
 answer_lines number zero tickets = []
 answer_lines number (suc count) tickets = flat_map (ticket_line number) tickets ++ answer_lines (number + 1) count tickets
 
--- the line of a node as it is shown: its words
-abbrev pub node_line : Flat → List ℕ
-node_line node = node_text node ++ codes "\n"
-
--- the nodes at and below a path
-abbrev pub shown_text : List Flat → List ℕ
-shown_text nodes = numbered (codes "show ") (length nodes) ++ codes "\n" ++ flat_map node_line nodes
+-- what is said of an item that answered no ticket
+abbrev pub said_line : Said → List ℕ
+said_line what = told_text (record { said = what; answers = [] })

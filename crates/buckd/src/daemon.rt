@@ -1,19 +1,20 @@
 // A daemon over plain lists: its book, its history, and the disk that it writes.
 ghost use Rattle.std.specs.Prelude.{◌≡◌, ◌∷◌, ◌++◌, ◌+◌, ◌&&◌, ◌<◌, ◌≤◌, ◌^◌, [], ℕ, List, None, Some, find, length, true, false, IfOk, OnOk};
-ghost use Rattle.std.specs.List.{list_any};
+ghost use Rattle.std.specs.List.{list_all, list_any};
 ghost use Rattle.std.specs.Option.{option_map};
 ghost use Rattle.std.specs.BTreeMap.{get};
 ghost use Rattle.std.specs.Ordering.{is_eq};
 ghost use Rattle.mat_path.specs.Names.{path_cmp};
 ghost use Rattle.mat_digest.specs.Digests.{digest_of};
-ghost use Rattle.mat_tree.specs.Parts.{replaced, without};
-ghost use Rattle.mat_tree.specs.Trees.{file_sum, file_tree};
+ghost use Rattle.mat_digest.specs.declared.digest.Digest.{Digest as TheDigest};
+ghost use Rattle.mat_tree.specs.Parts.{bare};
+ghost use Rattle.mat_tree.specs.Trees.{IsTree, file_sum, file_tree};
+ghost use Rattle.mat_model.specs.declared.entries.Entry.{Entry as TheEntry};
 ghost use Rattle.mat_model.specs.declared.entries.Event.TheVariants as event;
-ghost use Rattle.mat_model.specs.declared.entries.Outcome.TheVariants as outcome;
 ghost use Rattle.mat_model.specs.declared.entries.Task.TheVariants as task;
 ghost use Rattle.mat_model.specs.declared.requests.Asked.TheVariants as asked;
 ghost use Rattle.mat_model.specs.declared.answers.Recorded.TheVariants as recorded;
-ghost use Rattle.mat_model.specs.Declarations.{new_row, write};
+ghost use Rattle.mat_model.specs.Declarations.{declare_tree, new_row, stands_at_path};
 ghost use Rattle.mat_model.specs.Gate.{is_live, enter};
 ghost use Rattle.mat_model.specs.Holding.{AreHeld};
 ghost use Rattle.mat_model.specs.Requests.{ensure, grant};
@@ -21,12 +22,15 @@ ghost use Rattle.mat_model.specs.Rows.{overlaps_row};
 ghost use Rattle.mat_model.specs.Work.{end_make, is_declared};
 ghost use Rattle.mat_model.specs.Yard.{first_task};
 ghost use Rattle.mat_model.proofs.Clear.{declared_alone};
-ghost use Rattle.region_port.specs.Disks.{disk_content};
-ghost use Rattle.buckd.specs.Making.{file_part};
-ghost use Rattle.buckd.specs.Run.{entry_at};
+ghost use Rattle.fetch_port.specs.Memory.{blobs_of};
+ghost use Rattle.region_port.specs.Disks.{disk_content, disk_rough};
+ghost use Rattle.script_lang.specs.Bounds.{HasBounds, HasLineBounds, HasRequestBounds};
+ghost use Rattle.buckd.specs.Making.{IsAtHand, is_write, shown_by};
+ghost use Rattle.buckd.specs.Run.{entry_at, is_write_entry};
 
-use crate::making::put_on_disk;
+use crate::making::make_on_disk;
 use crate::{rows, texts, tickets};
+use fetch_port::{Fetcher, MemStore};
 use mat_digest::Digest;
 use mat_model::{
     Answer, Asked, Book, By, Entry, Event, Hold, Outcome, Recorded, Reply, Request, Row, Task,
@@ -34,22 +38,25 @@ use mat_model::{
 };
 use mat_path::{Items, Memory, Path, Rel};
 use mat_tree::{Flat, Kind, Sum, Tree, What};
+use reapi_dir::sum_of;
 use region_port::MemDisk;
-use script_lang::{Item, Line, push_not_yet, push_reply, push_text, push_unread};
+use script_lang::{Item, Line, Said, push_not_yet, push_reply, push_text, push_unread};
 use std::alloc::Global;
 use std::collections::BTreeMap;
+use write_plan::Method;
 
-/// The daemon: the parts of its book, the bytes that rows were declared with, the history so far, and the disk.
+/// The daemon: the parts of its book, where the bytes of each row come from, the history so far, the disk and the store.
 #[derive(Drop)]
 pub struct Daemon {
     state: Option<u64>,
     live: Vec<u32>,
     rows: Vec<Row>,
-    held: BTreeMap<Path, Items<u8>>,
+    methods: BTreeMap<Path, Method>,
     holds: Vec<Hold>,
     tickets: Vec<Ticket>,
     history: Vec<Entry>,
     disk: MemDisk,
+    store: MemStore,
 }
 
 /// What is left of a run: its book, and the history that led to it.
@@ -81,16 +88,13 @@ fn file_tree(alloc: Global, digest: Digest) -> Result<Tree, Memory>
     }
 }
 
-/// A row as it is declared: the file of a digest, which doesn't stand yet.
-fn new_row(alloc: Global, number: u64, path: &Path, digest: Digest) -> Result<Row, Memory>
-    ensures { IfOk result (λ row. row ≡ new_row number 0 path.now (file_tree digest false)) }
+/// A row as it is declared, which doesn't stand yet.
+fn new_row(alloc: Global, number: u64, path: &Path, tree: Tree) -> Result<Row, Memory>
+    ensures row { IfOk result (λ row. row ≡ new_row number 0 path.now tree) }
+    ensures tree { IsTree tree }
 {
     let path = path.copy()?;
-    let tree = file_tree(alloc, digest)?;
-    let sum = Sum {
-        kind: Kind::File,
-        digest,
-    };
+    let sum = sum_of(alloc, &tree)?;
     Ok(Row {
         path,
         tree,
@@ -101,17 +105,17 @@ fn new_row(alloc: Global, number: u64, path: &Path, digest: Digest) -> Result<Ro
     })
 }
 
-/// Keeps the bytes of the row at a path.
-fn keep_bytes(
-    held: &mut BTreeMap<Path, Items<u8>>,
+/// Keeps where the bytes of the row at a path come from.
+fn keep_method(
+    methods: &mut BTreeMap<Path, Method>,
     path: &Path,
-    bytes: Items<u8>,
+    method: Method,
 ) -> Result<(), Memory>
-    ensures others { OnOk result ((q : List (List ℕ)) → is_eq (path_cmp path.now q) ≡ false → get path_cmp held.new q ≡ get path_cmp held.old q) }
-    ensures found { OnOk result (get path_cmp held.new path.now ≡ Some bytes) }
+    ensures others { OnOk result ((q : List (List ℕ)) → is_eq (path_cmp path.now q) ≡ false → get path_cmp methods.new q ≡ get path_cmp methods.old q) }
+    ensures found { OnOk result (get path_cmp methods.new path.now ≡ Some method) }
 {
     let key = path.copy()?;
-    held.insert(key, bytes)?;
+    methods.insert(key, method)?;
     Ok(())
 }
 
@@ -142,32 +146,36 @@ fn enter_asked(history: &mut Vec<Entry>, asked: Asked, reply: &Reply) -> Result<
 }
 
 impl Daemon {
-    ghost use Rattle.buckd.specs.Daemon.{book_of, point_of, task_for, Serves, Steps, Tells};
+    ghost use Rattle.buckd.specs.Daemon.{book_of, point_of, scene_of, task_for, Makes, Serves, Steps, Tells};
     ghost use Rattle.buckd.specs.Legal.{IsLegalRun};
-    ghost use Rattle.buckd.specs.Run.{ask, asked_of, drain, idle, is_not_yet, made, make_first, start, tell, tell_item};
+    ghost use Rattle.buckd.specs.Run.{acts_of, asked_of, declared_tree, drain, idle, is_not_yet, made, make_first, start, start_point, tell, tell_item};
     ghost use Rattle.script_lang.specs.declared.items.Item.TheVariants as item;
-    ghost use Rattle.buckd.specs.Sound.{kept_by, IsKept, IsPast, IsReady, IsSound, KeepsBook, KeepsDisk, KeepsRows};
+    ghost use Rattle.buckd.specs.Sound.{kept_by, AreSynced, IsKept, IsKeptWith, IsPast, IsReady, IsSound, KeepsBook, KeepsDisk, KeepsRows};
 
     /// A daemon over an empty disk.
     fn empty(alloc: Global) -> Daemon
-        ensures start { point_of result ≡ start }
+        ensures point { point_of result ≡ start_point }
+        ensures blobs { (digest : TheDigest) → blobs_of result.store digest ≡ None }
+        ensures asks { result.store.asks ≡ 0 }
+        ensures content { disk_content result.disk ≡ bare }
         ensures ready { IsReady result }
     {
         Daemon {
             state: None,
             live: Vec::new(alloc),
             rows: Vec::new(alloc),
-            held: BTreeMap::new(alloc),
+            methods: BTreeMap::new(alloc),
             holds: Vec::new(alloc),
             tickets: Vec::new(alloc),
             history: Vec::new(alloc),
             disk: MemDisk::new(alloc),
+            store: MemStore::new(alloc),
         }
     }
 
     /// A daemon over an empty disk.
     pub fn new(alloc: Global) -> Daemon
-        ensures start { point_of result ≡ start }
+        ensures start { scene_of result ≡ start }
         ensures sound { IsSound result }
     {
         Daemon::empty(alloc)
@@ -179,18 +187,20 @@ impl Daemon {
         ensures book { result.0.book ≡ (point_of self).book }
         ensures history { result.0.history ≡ (point_of self).history }
         ensures held { AreHeld (disk_content result.1) result.0.book.rows }
+        ensures synced { AreSynced (disk_rough result.1) result.0.book.rows }
+        ensures shown { shown_by (disk_content result.1) ≡ (scene_of self).disk }
     {
         let Daemon {
             state,
             live,
             rows,
-            held,
+            methods: _,
             holds,
             tickets,
             history,
             disk,
+            store: _,
         } = self;
-        let _ = held;
         let book = Book {
             first: 0,
             now: 0,
@@ -211,6 +221,8 @@ impl Daemon {
         ensures book { result.0.book ≡ (point_of self).book }
         ensures history { result.0.history ≡ (point_of self).history }
         ensures held { AreHeld (disk_content result.1) result.0.book.rows }
+        ensures synced { AreSynced (disk_rough result.1) result.0.book.rows }
+        ensures shown { shown_by (disk_content result.1) ≡ (scene_of self).disk }
         ensures legal { IsLegalRun result.0 }
     {
         self.into_run(alloc)
@@ -241,7 +253,9 @@ impl Daemon {
             }
             Request::Ensure { .. } => false,
             Request::Leave { .. } => true,
-            Request::Declare { .. } => true,
+            Request::Declare { command, path, .. } => {
+                self.is_live(*command) && rows::any_overlaps(self.rows.as_slice(), path)
+            }
             Request::Copy { .. } => true,
             Request::Matches { .. } => true,
             Request::Has { .. } => true,
@@ -264,51 +278,52 @@ impl Daemon {
         Ok(Reply::Entered)
     }
 
-    /// Declares a file at a path that no row overlaps.
+    /// Declares a tree at a path that no row overlaps.
+    fn declare_clear(
+        &mut self,
+        command: u32,
+        path: &Path,
+        tree: Tree,
+        method: Method,
+    ) -> Result<Reply, Memory>
+        requires clear { list_any (overlaps_row path.now) self.old.rows.items ≡ false }
+        requires kept { IsKept self.old }
+        requires places { list_all (stands_at_path path.now) tree ≡ true }
+        requires bytes { IsAtHand method tree }
+        ensures served { IfOk result (λ reply. Serves
+            (declared_alone (length self.old.history.items) command path.now tree (book_of self.old)) self.old self.new reply) }
+        ensures kept { OnOk result ((entry : TheEntry) → is_write_entry entry ≡ is_write method → IsKeptWith (self.old.history.items ++ entry ∷ []) self.new) }
+        ensures tickets { self.new.tickets ≡ self.old.tickets }
+    {
+        let number = self.number();
+        let row = new_row(*self.history.allocator(), number, path, tree)?;
+        rows::put_row(&mut self.rows, row)?;
+        tickets::hold(&mut self.holds, command, path)?;
+        keep_method(&mut self.methods, path, method)?;
+        Ok(Reply::Declared(number))
+    }
+
+    /// Declares a tree, at a path that no row overlaps where the command is live.
     fn declare(
         &mut self,
         command: u32,
         path: &Path,
-        digest: Digest,
-        bytes: Items<u8>,
-    ) -> Result<Reply, Memory>
-        requires clear { list_any (overlaps_row path.now) self.old.rows.items ≡ false }
-        requires kept { IsKept self.old }
-        requires digest { digest ≡ digest_of bytes }
-        ensures served { IfOk result (λ reply. Serves
-            (declared_alone (length self.old.history.items) command path.now (file_tree digest false) (book_of self.old))
-            self.old self.new reply) }
-        ensures kept { OnOk result (IsKept self.new) }
-        ensures tickets { self.new.tickets ≡ self.old.tickets }
-    {
-        let number = self.number();
-        let row = new_row(*self.history.allocator(), number, path, digest)?;
-        rows::put_row(&mut self.rows, row)?;
-        tickets::hold(&mut self.holds, command, path)?;
-        keep_bytes(&mut self.held, path, bytes)?;
-        Ok(Reply::Declared(number))
-    }
-
-    /// Writes a file, at a path that no row overlaps where the command is live.
-    fn write(
-        &mut self,
-        command: u32,
-        path: &Path,
-        digest: Digest,
-        bytes: Items<u8>,
+        tree: Tree,
+        method: Method,
     ) -> Result<Reply, Memory>
         requires clear { (is_live command (book_of self.old) && list_any (overlaps_row path.now) self.old.rows.items) ≡ false }
         requires kept { IsKept self.old }
-        requires digest { digest ≡ digest_of bytes }
+        requires places { list_all (stands_at_path path.now) tree ≡ true }
+        requires bytes { IsAtHand method tree }
         ensures served { IfOk result (λ reply. Serves
-            (write (length self.old.history.items) command path.now (file_sum digest false) (book_of self.old)) self.old self.new reply) }
-        ensures kept { OnOk result (IsKept self.new) }
+            (declare_tree (length self.old.history.items) command path.now tree (book_of self.old)) self.old self.new reply) }
+        ensures kept { OnOk result ((entry : TheEntry) → is_write_entry entry ≡ is_write method → IsKeptWith (self.old.history.items ++ entry ∷ []) self.new) }
         ensures tickets { self.new.tickets ≡ self.old.tickets }
     {
         if !self.is_live(command) {
             return Ok(Reply::NotLive);
         }
-        self.declare(command, path, digest, bytes)
+        self.declare_clear(command, path, tree, method)
     }
 
     /// Answers for a row that covers the path: it is ready, or a ticket is opened.
@@ -367,12 +382,13 @@ impl Daemon {
         requires clear { (is_live command (book_of self.old) && list_any (overlaps_row path) self.old.rows.items) ≡ false }
         requires kept { IsKept self.old }
         ensures served { IfOk result (λ reply.
-            Steps (ask (asked.Write command path (file_sum (digest_of bytes) false)) (point_of self.old)) self.new reply) }
+            Steps (asked.Write command path (file_sum (digest_of bytes) false)) self.old self.new reply) }
         ensures kept { OnOk result (IsKept self.new) }
         ensures past { (number : ℕ) → IsPast number self.old → OnOk result (IsPast number self.new) }
     {
         let digest = Digest::of(bytes.as_slice());
-        let reply = self.write(command, &path, digest, bytes)?;
+        let tree = file_tree(*self.history.allocator(), digest)?;
+        let reply = self.declare(command, &path, tree, Method::Write(bytes))?;
         let sum = Sum {
             kind: Kind::File,
             digest,
@@ -382,11 +398,32 @@ impl Daemon {
         Ok(reply)
     }
 
+    /// Serves a declaration and enters it into the history.
+    fn serve_declare(&mut self, command: u32, path: Path, tree: Tree) -> Result<Reply, Memory>
+        requires clear { (is_live command (book_of self.old) && list_any (overlaps_row path) self.old.rows.items) ≡ false }
+        requires kept { IsKept self.old }
+        requires places { list_all (stands_at_path path) tree ≡ true }
+        ensures served { IfOk result (λ reply. Steps (asked.Declare command path tree) self.old self.new reply) }
+        ensures kept { OnOk result (IsKept self.new) }
+        ensures past { (number : ℕ) → IsPast number self.old → OnOk result (IsPast number self.new) }
+    {
+        let copy = tree.copy()?;
+        let reply = self.declare(command, &path, copy, Method::Fetch)?;
+        let asked = Asked::Declare {
+            command,
+            path,
+            tree,
+        };
+        enter_asked(&mut self.history, asked, &reply)?;
+        Ok(reply)
+    }
+
     /// Serves a request and enters it into the history.
     fn serve(&mut self, request: Request) -> Result<Reply, Memory>
         requires served { is_not_yet request (book_of self.old) ≡ false }
+        requires bounds { HasRequestBounds request }
         requires kept { IsKept self.old }
-        ensures served { IfOk result (λ reply. Steps (ask (asked_of request) (point_of self.old)) self.new reply) }
+        ensures served { IfOk result (λ reply. Steps (asked_of request) self.old self.new reply) }
         ensures kept { OnOk result (IsKept self.new) }
         ensures past { (number : ℕ) → IsPast number self.old → OnOk result (IsPast number self.new) }
     {
@@ -408,8 +445,12 @@ impl Daemon {
                 enter_asked(&mut self.history, asked, &reply)?;
                 Ok(reply)
             }
+            Request::Declare {
+                command,
+                path,
+                tree,
+            } => self.serve_declare(command, path, tree),
             Request::Leave { .. } => unreachable!(),
-            Request::Declare { .. } => unreachable!(),
             Request::Copy { .. } => unreachable!(),
             Request::Matches { .. } => unreachable!(),
             Request::Has { .. } => unreachable!(),
@@ -432,40 +473,49 @@ impl Daemon {
         }
     }
 
-    /// Makes the disk hold the bytes that are kept for the row at a path.
-    fn write_row(&mut self, path: &Path) -> Result<(), Memory>
-        requires { self.old.disk.loans.items ≡ [] }
+    /// Makes the disk hold the tree of the row that was declared at a path under a stamp, unless a file has no right bytes.
+    fn make_part(&mut self, path: &Path, stamp: u64) -> Result<Outcome, Memory>
+        requires { IsKept self.old }
+        ensures made { IfOk result (λ outcome. Makes path.now (acts_of (task.Make path.now stamp) (point_of self.old))
+            (declared_tree path.now stamp self.old.rows.items) self.old self.new outcome) }
         ensures free { self.new.disk.loans.items ≡ [] }
         ensures same { KeepsBook self.old self.new }
-        ensures content { (bytes : List ℕ) → kept_by self.old path.now ≡ Some bytes → OnOk result
-            (disk_content self.new.disk ≡ replaced path.now (file_part bytes) (without path.now (disk_content self.old.disk))) }
+        ensures blobs { blobs_of self.new.store ≡ blobs_of self.old.store }
     {
         let alloc = *self.history.allocator();
-        match self.held.get(path) {
-            Some(bytes) => put_on_disk(alloc, &mut self.disk, path, bytes.as_slice()),
+        match rows::declared(self.rows.as_slice(), path, stamp) {
+            Some(row) => match self.methods.get(path) {
+                Some(method) => make_on_disk(
+                    alloc,
+                    &mut self.disk,
+                    &mut self.store,
+                    path,
+                    &row.tree,
+                    method,
+                ),
+                None => Err(Memory),
+            },
             None => Err(Memory),
         }
     }
 
-    /// The end of a make: its row stands, and the tickets that are open on it are answered.
-    fn end_make(&mut self, path: &Path, stamp: u64) -> Reply
+    /// The end of a make: its row stands if it was made, and the tickets that are open on it are answered.
+    fn end_make(&mut self, path: &Path, stamp: u64, outcome: Outcome) -> Reply
         ensures served { Serves
-            (end_make (length self.old.history.items) path.now outcome.Made recorded.Nothing (book_of self.old) (find (is_declared path.now stamp) self.old.rows.items))
+            (end_make (length self.old.history.items) path.now outcome recorded.Nothing (book_of self.old) (find (is_declared path.now stamp) self.old.rows.items))
             self.old self.new result }
         ensures same { KeepsDisk self.old self.new }
     {
         let number = self.number();
         match rows::declared(self.rows.as_slice(), path, stamp) {
             Some(row) => {
-                let answer = Answer::Ready {
-                    stamp: row.stamp,
-                    sum: row.sum,
-                };
-                tickets::answer_row(self.tickets.as_mut_slice(), row, number, answer);
+                tickets::answer_outcome(self.tickets.as_mut_slice(), row, number, outcome);
             }
             None => return Reply::Stale,
         }
-        rows::stand(self.rows.as_mut_slice(), path);
+        if outcome == Outcome::Made {
+            rows::stand(self.rows.as_mut_slice(), path);
+        }
         Reply::Fresh(Recorded::Nothing)
     }
 
@@ -473,7 +523,7 @@ impl Daemon {
     fn make(&mut self, path: Path, stamp: u64) -> Result<(), Memory>
         requires first { first_task idle (book_of self.old) ≡ Some (task.Make path stamp) }
         requires sound { IsReady self.old }
-        ensures point { OnOk result (point_of self.new ≡ made (task.Make path stamp) (point_of self.old)) }
+        ensures scene { OnOk result (scene_of self.new ≡ made (task.Make path stamp) (scene_of self.old)) }
         ensures sound { OnOk result (IsReady self.new) }
     {
         let job = self.number();
@@ -482,19 +532,15 @@ impl Daemon {
             stamp,
         };
         enter_event(&mut self.history, Event::Begin(task), Reply::Started)?;
-        self.write_row(&path)?;
-        let reply = self.end_make(&path, stamp);
-        let done = Event::Done {
-            job,
-            outcome: Outcome::Made,
-        };
-        enter_event(&mut self.history, done, reply)
+        let outcome = self.make_part(&path, stamp)?;
+        let reply = self.end_make(&path, stamp, outcome);
+        enter_event(&mut self.history, Event::Done { job, outcome }, reply)
     }
 
     /// Makes the row of the lowest open ticket, if there is one, and says whether there was.
     fn make_first(&mut self) -> Result<bool, Memory>
         requires { IsReady self.old }
-        ensures point { OnOk result (point_of self.new ≡ make_first (point_of self.old)) }
+        ensures scene { OnOk result (scene_of self.new ≡ make_first (scene_of self.old)) }
         ensures none { IfOk result (λ more. more ≡ false → first_task idle (book_of self.old) ≡ None) }
         ensures sound { OnOk result (IsReady self.new) }
     {
@@ -510,7 +556,7 @@ impl Daemon {
     /// Makes each row that has an open ticket, the one with the lowest ticket first.
     fn drain(&mut self) -> Result<(), Memory>
         requires { IsReady self.old }
-        ensures point { OnOk result (point_of self.new ≡ drain (point_of self.old)) }
+        ensures scene { OnOk result (scene_of self.new ≡ drain (scene_of self.old)) }
         ensures sound { OnOk result (IsReady self.new) }
     {
         let count = tickets::open_count(self.tickets.as_slice());
@@ -525,8 +571,9 @@ impl Daemon {
 
     /// Answers a request.
     fn tell_request(&mut self, request: Request, out: &mut Vec<u8>) -> Result<(), Memory>
-        requires { IsReady self.old }
-        ensures told { OnOk result (Tells (tell_item (item.Request request) (point_of self.old)) self.new out.old.items out.new.items) }
+        requires bounds { HasRequestBounds request }
+        requires sound { IsReady self.old }
+        ensures told { OnOk result (Tells (tell_item (item.Request request) (scene_of self.old)) self.new out.old.items out.new.items) }
         ensures sound { OnOk result (IsReady self.new) }
     {
         if self.is_not_yet(&request) {
@@ -540,7 +587,7 @@ impl Daemon {
     /// Drains, and tells the tickets that were answered.
     fn tell_drain(&mut self, out: &mut Vec<u8>) -> Result<(), Memory>
         requires { IsReady self.old }
-        ensures told { OnOk result (Tells (tell_item item.Drain (point_of self.old)) self.new out.old.items out.new.items) }
+        ensures told { OnOk result (Tells (tell_item item.Drain (scene_of self.old)) self.new out.old.items out.new.items) }
         ensures sound { OnOk result (IsReady self.new) }
     {
         let before = self.number();
@@ -553,30 +600,55 @@ impl Daemon {
     /// Tells what the disk has at and below a path.
     fn tell_show(&self, path: &Path, out: &mut Vec<u8>) -> Result<(), Memory>
         requires { IsReady self.now }
-        ensures { OnOk result (Tells (tell_item (item.Show path.now) (point_of self.now)) self.now out.old.items out.new.items) }
+        ensures { OnOk result (Tells (tell_item (item.Show path.now) (scene_of self.now)) self.now out.old.items out.new.items) }
     {
         let nodes = self.disk.nodes(path)?;
-        texts::push_shown(out, nodes.as_slice())
+        texts::push_said(out, Said::Shown(Items::of(nodes)))
+    }
+
+    /// Puts bytes into the store, and tells their digest.
+    fn tell_blob(&mut self, bytes: Vec<u8>, out: &mut Vec<u8>) -> Result<(), Memory>
+        requires { IsReady self.old }
+        ensures told { OnOk result (Tells (tell_item (item.Blob bytes.items) (scene_of self.old)) self.new out.old.items out.new.items) }
+        ensures sound { OnOk result (IsReady self.new) }
+    {
+        let digest = self.store.put(bytes)?;
+        texts::push_said(out, Said::Stored(digest))
+    }
+
+    /// Puts bytes into the store under a digest that may not be theirs, and tells that digest.
+    fn tell_lie(&mut self, digest: Digest, bytes: Vec<u8>, out: &mut Vec<u8>) -> Result<(), Memory>
+        requires { IsReady self.old }
+        ensures told { OnOk result (Tells (tell_item (item.Lie digest bytes.items) (scene_of self.old)) self.new out.old.items out.new.items) }
+        ensures sound { OnOk result (IsReady self.new) }
+    {
+        self.store.lie(digest, bytes)?;
+        texts::push_said(out, Said::Stored(digest))
     }
 
     /// Answers an item.
     fn tell_item(&mut self, item: Item, out: &mut Vec<u8>) -> Result<(), Memory>
-        requires { IsReady self.old }
-        ensures told { OnOk result (Tells (tell_item item (point_of self.old)) self.new out.old.items out.new.items) }
+        requires bounds { HasBounds 1 item }
+        requires sound { IsReady self.old }
+        ensures told { OnOk result (Tells (tell_item item (scene_of self.old)) self.new out.old.items out.new.items) }
         ensures sound { OnOk result (IsReady self.new) }
     {
         match item {
             Item::Request(request) => self.tell_request(request, out),
             Item::Drain => self.tell_drain(out),
             Item::Show(path) => self.tell_show(&path, out),
+            Item::Blob(bytes) => self.tell_blob(bytes.into_vec(), out),
+            Item::Lie { digest, bytes } => self.tell_lie(digest, bytes.into_vec(), out),
+            Item::Asks => texts::push_said(out, Said::Asks(self.store.asks())),
             _ => push_not_yet(out),
         }
     }
 
     /// Answers a line.
     fn tell_line(&mut self, line: Line, out: &mut Vec<u8>) -> Result<(), Memory>
-        requires { IsReady self.old }
-        ensures told { OnOk result (Tells (tell line (point_of self.old)) self.new out.old.items out.new.items) }
+        requires bounds { HasLineBounds 1 line }
+        requires sound { IsReady self.old }
+        ensures told { OnOk result (Tells (tell line (scene_of self.old)) self.new out.old.items out.new.items) }
         ensures sound { OnOk result (IsReady self.new) }
     {
         match line {
@@ -590,8 +662,9 @@ impl Daemon {
 
     /// Answers a line.
     pub fn tell(&mut self, line: Line, out: &mut Vec<u8>) -> Result<(), Memory>
-        requires { IsSound self.old }
-        ensures told { OnOk result (Tells (tell line (point_of self.old)) self.new out.old.items out.new.items) }
+        requires bounds { HasLineBounds 1 line }
+        requires sound { IsSound self.old }
+        ensures told { OnOk result (Tells (tell line (scene_of self.old)) self.new out.old.items out.new.items) }
         ensures sound { OnOk result (IsSound self.new) }
     {
         self.tell_line(line, out)

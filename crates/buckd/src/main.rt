@@ -11,6 +11,8 @@ mod session;
 mod texts;
 mod tickets;
 mod top;
+#[cfg(test)]
+mod worked;
 
 use mat_io::{StdSink, StdSource};
 use std::env;

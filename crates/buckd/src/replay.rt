@@ -3,7 +3,7 @@ ghost use Rattle.std.specs.Prelude.{◌≡◌, ◌<◌, [], ℕ, true, length, L
 ghost use Rattle.mat_io.specs.Answers.{got_failed};
 ghost use Rattle.mat_io.specs.Streams.{Reads};
 ghost use Rattle.mat_io.specs.Causes.{HasCause};
-ghost use Rattle.buckd.specs.Daemon.{point_of};
+ghost use Rattle.buckd.specs.Daemon.{scene_of};
 ghost use Rattle.buckd.specs.Sound.{IsSound};
 ghost use Rattle.buckd.specs.Streams.{IsSmall, Stands};
 ghost use Rattle.buckd.specs.Replay.{IsFinished, IsSoundAtEnd, IsWithin, Leaves, LeavesAt, Ran, Replays, end_of, input_failed, input_limit, is_lost, is_sink_fault, is_source_fault, is_status, output_failed, status_of};
@@ -221,7 +221,7 @@ fn finish<T: Sink>(session: &mut Session, ending: Ending, output: &mut T) -> End
 fn make_ended(alloc: Global, session: Session, ending: Ending) -> Ended
     requires { IsSoundAtEnd ending session.daemon }
     ensures status { result.status ≡ status_of ending }
-    ensures leaves { LeavesAt ending (point_of session.daemon) result }
+    ensures leaves { LeavesAt ending (scene_of session.daemon) result }
 {
     let status = status_of(ending);
     if ending == Ending::NoMemory {

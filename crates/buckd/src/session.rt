@@ -1,6 +1,7 @@
 // A run in progress: the daemon, the text that waits to go out, and the line that isn't whole yet.
 ghost use Rattle.std.specs.Prelude.{◌≡◌, ◌∷◌, ◌++◌, ◌-◌, [], ℕ, false, length, take, List, Option, IfOk};
 ghost use Rattle.mat_io.specs.Causes.{HasCause};
+ghost use Rattle.script_lang.specs.Bounds.{HasLineBounds};
 ghost use Rattle.buckd.specs.Lines.{IsLine, line_of, lines_of};
 ghost use Rattle.buckd.specs.Streams.{ends, gone_to, kept};
 
@@ -165,6 +166,7 @@ fn is_end(line: &Line) -> bool
 /// What a line says. Want of memory is the one refusal.
 fn read(alloc: Global, line: &[u8]) -> Result<Line, Memory>
     ensures ok { IfOk result (λ said. said ≡ line_of line.now) }
+    ensures bounds { IfOk result (λ said. HasLineBounds 1 said) }
 {
     match read_line(alloc, line, WORKERS) {
         Line::Skip => Ok(Line::Skip),

@@ -1,13 +1,11 @@
-// The text of answers and nodes, put behind what a `Vec` holds. After want of memory a part of it may stand there.
+// The text of what is told, put behind what a `Vec` holds. After want of memory a part of it may stand there.
 ghost use Rattle.std.specs.Prelude.{◌≡◌, ◌+◌, ◌^◌, ◌<◌, ◌++◌, OnOk};
 ghost use Rattle.std.specs.List.{flat_map};
-ghost use Rattle.buckd.specs.Texts.{answer_line, answer_lines, given_line, node_line, shown_text, ticket_line};
+ghost use Rattle.buckd.specs.Texts.{answer_line, answer_lines, given_line, said_line, ticket_line};
 
 use mat_model::{Answer, Given, Ticket};
-use mat_path::Memory;
-use mat_tree::Flat;
-use script_lang::{push_answer, push_numbered, push_text};
-use tree_words::push_node;
+use mat_path::{Items, Memory};
+use script_lang::{Said, Told, push_answer, push_numbered, push_text, push_told};
 
 // Puts the line of an answered ticket behind.
 fn push_answer_line(out: &mut Vec<u8>, ticket: u64, answer: &Answer) -> Result<(), Memory>
@@ -65,39 +63,20 @@ pub fn push_answer_lines(
     Ok(())
 }
 
-// Puts the line of a node behind: its words.
-fn push_node_line(out: &mut Vec<u8>, node: &Flat) -> Result<(), Memory>
-    ensures ok { OnOk result (out.new.items ≡ out.old.items ++ node_line node.now) }
+/// Puts behind what is said of an item that answered no ticket.
+pub fn push_said(out: &mut Vec<u8>, said: Said) -> Result<(), Memory>
+    ensures ok { OnOk result (out.new.items ≡ out.old.items ++ said_line said) }
 {
-    push_node(out, node)?;
-    push_text(out, b"\n")
-}
-
-// Puts the lines of some nodes behind.
-fn push_nodes(out: &mut Vec<u8>, nodes: &[Flat]) -> Result<(), Memory>
-    ensures ok { OnOk result (out.new.items ≡ out.old.items ++ flat_map node_line nodes.now) }
-{
-    for node in nodes {
-        push_node_line(out, node)?;
-    }
-    Ok(())
-}
-
-/// Puts the nodes at and below a path behind: how many they are, and a line for each.
-pub fn push_shown(out: &mut Vec<u8>, nodes: &[Flat]) -> Result<(), Memory>
-    ensures ok { OnOk result (out.new.items ≡ out.old.items ++ shown_text nodes.now) }
-{
-    push_numbered(out, b"show ", nodes.len() as u64)?;
-    push_text(out, b"\n")?;
-    push_nodes(out, nodes)
+    let answers = Items::of(Vec::new(*out.allocator()));
+    push_told(out, &Told { said, answers })
 }
 
 #[cfg(test)]
 mod tests {
     use super::*;
     use mat_digest::Digest;
-    use mat_path::{Path, Rel, Target};
-    use mat_tree::{Kind, Sum, What};
+    use mat_path::Path;
+    use mat_tree::{Kind, Sum};
     use std::alloc::Global;
     use std::test::Fail;
 
@@ -141,31 +120,6 @@ mod tests {
         push_answer_lines(&mut out, 6, 2, tickets.as_slice())?;
         let text =
             b"answer 5 ready 4 x abababababababababababababababababababababababababababababababab:3\nanswer 3 undeclared\n";
-        assert_eq!(rt; out.as_slice(), text.as_slice());
-        Ok(())
-    }
-
-    fn node(alloc: Global, rel: &[u8], what: What) -> Result<Flat, Fail> {
-        Ok(Flat {
-            rel: Rel::read(alloc, rel)?,
-            what,
-        })
-    }
-
-    #[test]
-    fn nodes_that_are_shown(rt: HostRuntime) -> Result<(), Fail> {
-        let alloc = rt.alloc();
-        let mut nodes = Vec::new(alloc);
-        nodes.push(node(alloc, b".", What::Dir)?)?;
-        let (digest, exec) = (DIGEST, true);
-        nodes.push(node(alloc, b"a", What::File { digest, exec })?)?;
-        let exec = false;
-        nodes.push(node(alloc, b"b/c", What::File { digest, exec })?)?;
-        nodes.push(node(alloc, b"l", What::Link(Target::read(alloc, b"../t")?))?)?;
-        let mut out = Vec::new(alloc);
-        push_shown(&mut out, nodes.as_slice())?;
-        let text =
-            b"show 4\nd .\nx abababababababababababababababababababababababababababababababab:3 a\nf abababababababababababababababababababababababababababababababab:3 b/c\nl ../t l\n";
         assert_eq!(rt; out.as_slice(), text.as_slice());
         Ok(())
     }

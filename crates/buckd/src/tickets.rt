@@ -4,10 +4,11 @@ ghost use Rattle.std.specs.Option.{option_and_then, option_copied};
 ghost use Rattle.std.specs.List.{list_any};
 ghost use Rattle.mat_model.specs.Tickets.{answered_by, is_hold, is_open, waits_for, with_hold};
 ghost use Rattle.mat_model.specs.Yard.{first_make, make_of, task_of};
+ghost use Rattle.buckd.specs.Ends.{answer_of, tickets_answered};
 ghost use Rattle.buckd.specs.Run.{idle};
 
 use crate::rows;
-use mat_model::{Answer, Given, Hold, Row, Ticket};
+use mat_model::{Answer, Given, Hold, Outcome, Row, Ticket};
 use mat_path::{Memory, Path};
 
 /// Whether a ticket has no answer yet.
@@ -66,6 +67,33 @@ pub fn answer_row(tickets: &mut [Ticket], row: &Row, number: u64, answer: Answer
 {
     for ticket in tickets.iter_mut() {
         answer_one(ticket, row, number, answer);
+    }
+}
+
+/// The answer that the end of a row's make is to its tickets: a make doesn't end wiped.
+fn answer_of(row: &Row, outcome: Outcome) -> Option<Answer>
+    ensures { result ≡ answer_of row.now outcome }
+{
+    match outcome {
+        Outcome::Made => Some(Answer::Ready {
+            stamp: row.stamp,
+            sum: row.sum,
+        }),
+        Outcome::Wiped => None,
+        Outcome::Missing(digest) => Some(Answer::Missing(digest)),
+        Outcome::Corrupt { wanted, found } => Some(Answer::Corrupt { wanted, found }),
+        Outcome::Fault(note) => Some(Answer::Fault(note)),
+        Outcome::NoMemory => Some(Answer::NoMemory),
+    }
+}
+
+/// Gives the end of a row's make to each ticket that is open on it.
+pub fn answer_outcome(tickets: &mut [Ticket], row: &Row, number: u64, outcome: Outcome)
+    ensures { tickets.new ≡ tickets_answered row.now number tickets.old (answer_of row.now outcome) }
+{
+    match answer_of(row, outcome) {
+        Some(answer) => answer_row(tickets, row, number, answer),
+        None => {}
     }
 }
 

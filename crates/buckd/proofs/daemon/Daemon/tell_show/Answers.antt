@@ -1,13 +1,14 @@
 use Rattle.std.proofs.Common.{List, ap, ◌++◌, ◌∙◌}
 use Rattle.mat_tree.specs.declared.flat.Flat.{Flat}
-use Rattle.buckd.specs.Texts.{shown_text}
+use Rattle.script_lang.specs.declared.told.Said.TheVariants as said
+use Rattle.buckd.specs.Texts.{said_line}
 use Rattle.buckd.proofs.Kept.{on_ok, told-show}
 use Rattle.buckd.proofs.daemon.Daemon.tell_show.Goals as goal
 
 pub returns : goal.returns
 returns c =
-    on_ok c.push_shown.result
-    (λ text. told-show c.args.path.now c.args.self.now c.in_ok-nodes.nodes.items c.args.out.now.items c.push_shown.new.out.items c.requires.kept
+    on_ok c.push_said.result
+    (λ text. told-show c.args.path.now c.args.self.now c.in_ok-nodes.nodes.items c.args.out.now.items c.push_said.new.out.items c.requires.kept
     c.in_ok-nodes.ensures.ascending c.in_ok-nodes.ensures.ok
-    (text ∙ ap (λ (nodes : List Flat). c.args.out.now.items ++ shown_text nodes) c.as_slice.ensures.value))
-    c.push_shown.ensures.ok
+    (text ∙ ap (λ (nodes : List Flat). c.args.out.now.items ++ said_line (said.Shown nodes)) c.of.ensures))
+    c.push_said.ensures.ok
