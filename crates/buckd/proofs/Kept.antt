@@ -24,7 +24,7 @@ use Rattle.mat_model.specs.Requests.{serve}
 use Rattle.mat_model.specs.Yard.{first_task}
 use Rattle.mat_model.proofs.Apart.{put_row-apart, apart-map}
 use Rattle.mat_model.proofs.Clear.{declare_clear, declared_alone}
-use Rattle.mat_model.proofs.Stood.{used-path, used-stands, used-tree}
+use Rattle.mat_model.proofs.Changes.{used-path, used-stands, used-tree}
 use Rattle.fetch_port.specs.declared.mem_store.MemStore.{MemStore}
 use Rattle.fetch_port.specs.Memory.{blobs_of}
 use Rattle.region_port.specs.declared.mem_disk.MemDisk.{MemDisk}

@@ -36,7 +36,7 @@ use Rattle.mat_model.specs.Requests.{at_moment, ensure_row, serve}
 use Rattle.mat_model.specs.Rows.{are_apart, cover, overlaps_row, put_row, used, used_row}
 use Rattle.mat_model.specs.Tickets.{is_open}
 use Rattle.mat_model.specs.Work.{end_make, finish, is_declared}
-use Rattle.mat_model.specs.Yard.{Debris, Job, Lent, Way, WayOf, Yard, add_debris, copied, ended, first_task, has_stamp, held, is_job, is_not_below, is_other_job, is_way_of, leaves_debris, lent_by, lent_for, made_yard, removed_rows, returned, started, store, way_declared, way_of, way_within, ways_after, writes_lying}
+use Rattle.mat_model.specs.Yard.{Debris, Job, Lent, Way, WayOf, Yard, add_debris, copied, ended, first_task, has_stamp, held, is_job, is_not_below, is_other_job, is_way_of, leaves_debris, lent_by, lent_for, made_yard, removed_rows, returned, store, way_declared, way_of, way_within, ways_after, writes_lying}
 use Rattle.mat_model.proofs.Clear.{declare_clear}
 use Rattle.mat_model.proofs.Idle.{has_one, idle_first, itself, no_wipe, none_removed}
 use Rattle.mat_model.proofs.LawLemmas.{contains_map, contains_put, history_apart, used-stamp}
@@ -288,11 +288,6 @@ make_job point path stamp = record {
   task = task.Make path stamp;
   lent = lent_for (task.Make path stamp) (model point).book.rows (model point).yard.ways;
 }
-
--- the work state after a make began
-abbrev make_yard : Point → List (List ℕ) → ℕ → Yard
-make_yard point path stamp =
-    started ((model point).book.first + length (model point).history) 0 (task.Make path stamp) (model point).book.rows (model point).yard
 
 -- a make ends recorded as nothing
 nothing_recorded : (number : ℕ) (path : List (List ℕ)) (ends : Outcome) (book : Book) (o : Option Row) →

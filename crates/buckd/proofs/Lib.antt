@@ -6,6 +6,8 @@ pub mod SeenWhat
 pub mod Seen
 pub mod LineLemmas
 pub mod RunLemmas
+pub mod MakeCauses
+pub mod CauseLemmas
 pub mod ReplayLemmas
 pub mod Past
 pub mod Stepping

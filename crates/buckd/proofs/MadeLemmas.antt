@@ -30,7 +30,8 @@ use Rattle.mat_model.specs.Tickets.{answered_by, answered_by_any, is_open, with_
 use Rattle.mat_model.specs.Work.{end_make, finish, is_declared, make_ended}
 use Rattle.mat_model.proofs.Apart.{apart-map}
 use Rattle.mat_model.proofs.ListTests.{and_true_parts}
-use Rattle.mat_model.proofs.Stood.{found_passes, standing-path}
+use Rattle.mat_model.proofs.Changes.{standing-path, standing-stamp, standing-tree}
+use Rattle.mat_model.proofs.Elements.{found_passes}
 use Rattle.fetch_port.specs.Fetches.{Blobs}
 use Rattle.fetch_port.specs.declared.mem_store.MemStore.{MemStore}
 use Rattle.fetch_port.specs.Memory.{blobs_of}
@@ -49,7 +50,7 @@ use Rattle.buckd.proofs.Kept.{kept-with}
 use Rattle.buckd.proofs.Left.{left_none}
 use Rattle.buckd.proofs.Standing.{covered-at, covered-map, held-at, synced-at}
 use Rattle.buckd.proofs.Stepping.{begun, worked-is, worked_so}
-use Rattle.buckd.proofs.Supplied.{held-more, standing-stamp, standing-tree, supplied-map, supplied_found}
+use Rattle.buckd.proofs.Supplied.{held-more, supplied-map, supplied_found}
 
 -- ---- the end of a make
 

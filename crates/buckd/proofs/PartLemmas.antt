@@ -16,7 +16,7 @@ use Rattle.mat_model.specs.Declarations.{stands_at_path}
 use Rattle.mat_model.specs.Rows.{is_at_path}
 use Rattle.mat_model.specs.Work.{is_declared}
 use Rattle.mat_model.proofs.ListTests.{and_true_parts}
-use Rattle.mat_model.proofs.Stood.{found_passes}
+use Rattle.mat_model.proofs.Elements.{found_passes}
 use Rattle.fetch_port.specs.Memory.{blobs_of}
 use Rattle.region_port.specs.Disks.{disk_content, disk_rough}
 use Rattle.write_plan.specs.declared.act.Act.{Act}
@@ -56,6 +56,14 @@ supplies d path stamp row method kept found got =
           (sym (ap (λ (n : ℕ). is_held d.history.items n) (sym number) ∙ s.held ∙ ap is_write same)) tree;
       tree = tree;
     }
+
+-- a method is kept for a row that was declared at a path under a stamp
+pub method_kept : (d : Daemon) (path : List (List ℕ)) (stamp : ℕ) (row : Row) → IsKept d → find (is_declared path stamp) d.rows.items ≡ Some row →
+    (method : Method) × (kept_by d path ≡ Some method)
+method_kept d path stamp row kept found =
+    let s = supplied_found d.history.items (kept_by d) (is_declared path stamp) d.rows.items row kept.supplied found in
+    let parts = and_true_parts (is_at_path path row) (row.stamp == stamp) (found_passes (is_declared path stamp) d.rows.items row found) in
+    (s.method, ap (λ (p : List (List ℕ)). kept_by d p) (sym (same_names-eq row.path path parts.0)) ∙ s.found)
 
 -- what the clauses of a make say together
 pub part_made : (r : Result Outcome Memory) (path : List (List ℕ)) (acts : List Act) (tree : List Flat) (old new : Daemon) →

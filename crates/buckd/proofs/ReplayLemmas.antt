@@ -15,10 +15,11 @@ use Rattle.buckd.specs.declared.session.Fed.{Fed}
 use Rattle.buckd.specs.declared.session.Fed.TheVariants as fed
 use Rattle.buckd.specs.declared.session.Session.{Session}
 use Rattle.buckd.specs.Daemon.{scene_of}
-use Rattle.buckd.specs.Lines.{has_end, lines_of, script_lines, whole_lines}
+use Rattle.buckd.specs.Lines.{before_end, has_end, lines_of, script_lines, whole_lines}
 use Rattle.buckd.specs.Run.{Scene}
 use Rattle.buckd.specs.Streams.{Feeds, FeedsLast, Flows, Follows, IsSoundAfter, Served, Stands, answered, fed_failed}
 use Rattle.buckd.specs.Replay.{Answers, HasRun, IsAt, IsFinished, IsHeldBy, IsLegalWhere, IsSoundAtEnd, IsWithin, Leaves, LeavesAt, Ran, RanOver, Replays, ReplaysBytes, end_of, has_run, input_failed, is_lost, is_sink_fault, is_source_fault, is_status, output_failed, status_of}
+use Rattle.buckd.proofs.CauseLemmas.{run-cause}
 use Rattle.buckd.proofs.LineLemmas.{script_all, script_cut, script_ended, script_front}
 use Rattle.buckd.proofs.RunLemmas.{Longer, broke_longer, broke_part, flows_whole, is_going, longer_same, part_longer, served_broke, served_flows, served_same}
 
@@ -285,10 +286,13 @@ ran_flows limit (Some bytes) after before mid now old new e kept scene flows ran
 
 answers : (lines : List (List ℕ)) (before now : Option (List ℕ)) (s : Session) (ended : Ended) → s.gathered.items ≡ [] → HasRun (scene_of s.daemon) ended
     → Served lines before now s → Answers lines before now ended
-answers lines before now s ended out has served = record {
-  text = flows_whole before now s.gathered.items (answered lines).text out served.text;
-  at = subst (λ (s : Scene). IsAt s ended) served.scene has.at;
-}
+answers lines before now s ended out has served =
+    let at : IsAt (answered lines).scene ended = subst (λ (s : Scene). IsAt s ended) served.scene has.at in
+    record {
+      text = flows_whole before now s.gathered.items (answered lines).text out served.text;
+      at = at;
+      causes = run-cause (before_end lines) ended at;
+    }
 
 replays_bytes : (limit : ℕ) (bytes : List ℕ) (after before now : Option (List ℕ)) (s : Session) (e : Ending) (ended : Ended) → ended.status ≡ status_of e
     → LeavesAt e (scene_of s.daemon) ended → IsFinished e s.gathered.items → RanOver limit bytes after before now s e
@@ -335,6 +339,7 @@ replays_bytes limit bytes after before now s ending.SinkFault ended is leaves ou
     more = ran.more;
     parts = ran.parts;
     at = subst (λ (s : Scene). IsAt s ended) ran.scene leaves.at;
+    causes = run-cause ran.front ended (subst (λ (s : Scene). IsAt s ended) ran.scene leaves.at);
   };
   no_end = λ h. absurd (omega arith);
   cut = λ h. absurd (omega arith);

@@ -12,9 +12,9 @@ use Rattle.mat_tree.specs.Trees.{has_node}
 use Rattle.mat_model.specs.declared.book.Row.{Row}
 use Rattle.mat_model.specs.Holding.{AreHeld}
 use Rattle.mat_model.specs.Rows.{are_apart, comes_before, covers, is_apart, is_at_path, overlaps_row, put_row}
-use Rattle.mat_model.proofs.Apart.{apart_parts, overlap-refl}
+use Rattle.mat_model.proofs.Apart.{apart_parts, overlap-refl, above_overlap}
 use Rattle.mat_model.proofs.ListTests.{and_true_parts, or_false_parts}
-use Rattle.mat_model.proofs.Stood.{above_overlap, found_all, found_passes}
+use Rattle.mat_model.proofs.Elements.{found_all, found_passes}
 use Rattle.region_port.specs.Calls.{Paths}
 use Rattle.buckd.specs.Making.{Nodes, shown_by, with_nodes}
 use Rattle.buckd.specs.Shows.{IsCovered}

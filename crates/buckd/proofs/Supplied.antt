@@ -13,11 +13,11 @@ use Rattle.mat_tree.specs.declared.flat.Flat.{Flat}
 use Rattle.mat_model.specs.declared.book.Row.{Row}
 use Rattle.mat_model.specs.declared.entries.Entry.{Entry}
 use Rattle.mat_model.specs.Declarations.{stands_at_path}
-use Rattle.mat_model.specs.Rows.{comes_before, is_at_path, overlaps_row, put_row, standing_row, used_row}
+use Rattle.mat_model.specs.Rows.{comes_before, overlaps_row, put_row, used_row}
 use Rattle.mat_model.proofs.ListTests.{or_false_parts}
 use Rattle.mat_model.proofs.Apart.{overlap-refl}
 use Rattle.mat_model.proofs.LawLemmas.{used-stamp}
-use Rattle.mat_model.proofs.Stood.{used-path, used-tree, standing-path}
+use Rattle.mat_model.proofs.Changes.{used-path, used-tree}
 use Rattle.buckd.specs.Making.{IsAtHand}
 use Rattle.buckd.specs.Run.{is_held, is_write_entry}
 use Rattle.buckd.specs.Shows.{AreOrdered, is_ordered}
@@ -131,21 +131,6 @@ pub supplied-used : (history : List Entry) (kept : Kept) (path : List (List ℕ)
     AreSupplied history kept (map (used_row path moment) rows)
 supplied-used history kept path moment rows all =
     supplied-map history kept (used_row path moment) (used-path path moment) (used-tree path moment) (used-stamp path moment) rows all
-
--- making a row stand keeps its tree and its stamp
-pub standing-tree : (path : List (List ℕ)) (row : Row) → (standing_row path row).tree ≡ row.tree
-standing-tree path row =
-    elim (is_at_path path row) as (λ b. (cond b (record row { stands = true }) row).tree ≡ row.tree) [ true ↦ refl | false ↦ refl ]
-
-pub standing-stamp : (path : List (List ℕ)) (row : Row) → (standing_row path row).stamp ≡ row.stamp
-standing-stamp path row =
-    elim (is_at_path path row) as (λ b. (cond b (record row { stands = true }) row).stamp ≡ row.stamp) [ true ↦ refl | false ↦ refl ]
-
--- rows stay supplied where one comes to stand
-pub supplied-standing : (history : List Entry) (kept : Kept) (path : List (List ℕ)) (rows : List Row) → AreSupplied history kept rows →
-    AreSupplied history kept (map (standing_row path) rows)
-supplied-standing history kept path rows all =
-    supplied-map history kept (standing_row path) (standing-path path) (standing-tree path) (standing-stamp path) rows all
 
 -- a row that a test finds is supplied
 pub supplied_found : (history : List Entry) (kept : Kept) (test : Row → Bool) (rows : List Row) (row : Row) → AreSupplied history kept rows →

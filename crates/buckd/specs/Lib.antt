@@ -9,4 +9,5 @@ pub mod Shows
 pub mod Brought
 pub mod Ends
 pub mod Streams
+pub mod Causes
 pub mod Replay

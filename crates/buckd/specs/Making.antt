@@ -1,5 +1,5 @@
 -- What a make does: it carries out the plan of its row's tree up to the first act that fails.
-use Rattle.std.specs.Prelude.{◌≡◌, ℕ, ◌+◌, ◌&&◌, ◌||◌, Bool, true, false, not, if◌then◌else◌, List, [], ◌∷◌, ◌++◌, length, drop, take, ⊤, Option, Some, None}
+use Rattle.std.specs.Prelude.{◌≡◌, ℕ, ◌+◌, ◌&&◌, Bool, true, false, not, if◌then◌else◌, List, [], ◌∷◌, ◌++◌, length, drop, take, ⊤, Option, Some, None}
 use Rattle.std.specs.Option.{is_some, option_map}
 use Rattle.mat_digest.specs.Digests.{digest_of}
 use Rattle.mat_digest.specs.declared.digest.Digest.{Digest}
@@ -135,10 +135,6 @@ abbrev pub is_fetch : Method → Bool
 is_fetch (method.Write bytes) = false
 is_fetch method.Fetch = true
 is_fetch (method.Copy source rest stamp origin) = false
-
--- whether another row's part may be read
-abbrev pub is_copy : Method → Bool
-is_copy way = not (is_write way || is_fetch way)
 
 -- the bytes that were given, if some were
 abbrev pub bytes_or_none : Option (List ℕ) → List ℕ

@@ -17,6 +17,7 @@ use Rattle.buckd.specs.declared.session.Fed.{Fed}
 use Rattle.buckd.specs.declared.session.Fed.TheVariants as fed
 use Rattle.buckd.specs.declared.session.Session.{Session}
 use Rattle.script_lang.specs.Spelled.{same_word}
+use Rattle.buckd.specs.Causes.{AreCaused}
 use Rattle.buckd.specs.Legal.{IsLegalRun}
 use Rattle.buckd.specs.Lines.{before_end, has_end, script_lines, whole_lines}
 use Rattle.buckd.specs.Making.{shown_by}
@@ -184,12 +185,17 @@ pub record Leaves (ended : Ended) : Type 0 where
   pub held : IsHeldBy ended.run ended.disk
   pub legal : IsLegalWhere ended.run
 
+-- a run that is there has a history in which each make that failed did so for what the store held after some of these lines
+abbrev pub IsCausedBy : List (List ℕ) → Option Run → Type 0
+IsCausedBy lines run = IfSome run (λ (r : Run). AreCaused lines r.history)
+
 -- ---- the run of a script
 
--- some lines were answered: their text went out, and the run is where they lead
+-- some lines were answered: their text went out, the run is where they lead, and each make that failed had its cause
 pub record Answers (lines : List (List ℕ)) (before now : Option (List ℕ)) (ended : Ended) : Type 0 where
   pub text : Grows before now (answered lines).text
   pub at : IsAt (answered lines).scene ended
+  pub causes : IsCausedBy (before_end lines) ended.run
 
 -- the input failed once these bytes were taken: their whole lines were answered, and none of them ended the script
 pub record Interrupted (limit : ℕ) (bytes : List ℕ) (after before now : Option (List ℕ)) (ended : Ended) : Type 0 where
@@ -208,6 +214,7 @@ pub record Failed (lines : List (List ℕ)) (before now : Option (List ℕ)) (en
   pub more : List (List ℕ)
   pub parts : before_end lines ≡ front ++ more
   pub at : IsAt (tell_lines front start).scene ended
+  pub causes : IsCausedBy front ended.run
 
 -- what the run of a script of these bytes gives, by its status
 pub record ReplaysBytes (limit : ℕ) (bytes : List ℕ) (after before now : Option (List ℕ)) (ended : Ended) : Type 0 where

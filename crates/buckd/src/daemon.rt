@@ -1,7 +1,7 @@
 // A daemon over plain lists: its book, its history, and the disk that it writes.
 ghost use Rattle.std.specs.Prelude.{◌≡◌, ◌∷◌, ◌++◌, ◌+◌, ◌&&◌, ◌<◌, ◌≤◌, ◌^◌, [], ℕ, List, None, Some, find, length, true, false, IfOk, OnOk};
 ghost use Rattle.std.specs.List.{list_all, list_any};
-ghost use Rattle.std.specs.Option.{option_map};
+ghost use Rattle.std.specs.Option.{is_some, option_map};
 ghost use Rattle.std.specs.BTreeMap.{get};
 ghost use Rattle.std.specs.Ordering.{is_eq};
 ghost use Rattle.mat_path.specs.Names.{path_cmp};
@@ -475,7 +475,8 @@ impl Daemon {
 
     /// Makes the disk hold the tree of the row that was declared at a path under a stamp, unless a file has no right bytes.
     fn make_part(&mut self, path: &Path, stamp: u64) -> Result<Outcome, Memory>
-        requires { IsKept self.old }
+        requires found { is_some (find (is_declared path.now stamp) self.old.rows.items) ≡ true }
+        requires kept { IsKept self.old }
         ensures made { IfOk result (λ outcome. Makes path.now (acts_of (task.Make path.now stamp) (point_of self.old))
             (declared_tree path.now stamp self.old.rows.items) self.old self.new outcome) }
         ensures free { self.new.disk.loans.items ≡ [] }
@@ -493,9 +494,9 @@ impl Daemon {
                     &row.tree,
                     method,
                 ),
-                None => Err(Memory),
+                None => unreachable!(),
             },
-            None => Err(Memory),
+            None => unreachable!(),
         }
     }
 

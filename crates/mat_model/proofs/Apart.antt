@@ -1,10 +1,10 @@
 -- Rows in strict order of which no two overlap: they stay so where a row is put at a clear place, and where each row keeps its path.
-use Rattle.std.proofs.Common.{◌≡◌, ℕ, Bool, true, false, not, ◌&&◌, List, [], ◌∷◌, cond, Ordering, Less, Equal, Greater, refl, sym, ap, ap₂, subst, ◌∙◌, map}
+use Rattle.std.proofs.Common.{◌≡◌, ℕ, Bool, true, false, not, ◌&&◌, List, [], ◌∷◌, cond, Ordering, Less, Equal, Greater, refl, sym, ap, ap₂, subst, ◌∙◌, map, drop, length}
 use Rattle.std.specs.Ordering.{is_lt, ordering_reverse}
 use Rattle.std.specs.List.{list_any, list_all}
 use Rattle.std.proofs.lemmas.Bool.{both_ways, and_from, or_left}
 use Rattle.mat_path.specs.Names.{is_prefix, overlap, path_cmp}
-use Rattle.mat_path.proofs.PathLemmas.{path_cmp_total, path_cmp_equal, overlap_comm, prefix-refl}
+use Rattle.mat_path.proofs.PathLemmas.{path_cmp_total, path_cmp_equal, overlap_comm, prefix-append_cases, prefix-refl, prefix_split}
 use Rattle.mat_model.specs.declared.book.Row.{Row}
 use Rattle.mat_model.specs.Rows.{are_apart, comes_before, is_apart, overlaps_row, put_row}
 use Rattle.mat_model.proofs.ListTests.{or_false_parts, and_true_parts, not_true}
@@ -108,3 +108,9 @@ apart-map f keeps (row ∷ rows) =
         let here : is_apart (f first) (f other) ≡ is_apart first other =
         ap₂ (λ (p q : List (List ℕ)). comes_before p q && not (overlap p q)) (keeps first) (keeps other) in
         ap₂ (λ (s t : Bool). s && t) here (all_apart-map first others)
+
+-- two paths above one place overlap
+pub above_overlap : (p q place : List (List ℕ)) → is_prefix p place ≡ true → is_prefix q place ≡ true → overlap p q ≡ true
+above_overlap p q place first second =
+    prefix-append_cases p q (drop (length q) place)
+    (subst (λ (l : List (List ℕ)). is_prefix p l ≡ true) (prefix_split q place second) first)

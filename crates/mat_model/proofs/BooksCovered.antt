@@ -23,7 +23,7 @@ use Rattle.mat_model.proofs.BooksTickets.{failed_cases, left_cases, made_cases}
 use Rattle.mat_model.proofs.LawLemmas.{contains_filter, contains_map, contains_put}
 use Rattle.mat_model.proofs.Makes.{found_contains}
 use Rattle.mat_model.proofs.Serving.{Changes, Endings}
-use Rattle.mat_model.proofs.Stood.{found_passes}
+use Rattle.mat_model.proofs.Elements.{found_passes}
 use Rattle.mat_model.proofs.ListTests.{and_true_parts}
 
 -- the parts of lying over a path, and lying over it from those

@@ -5,7 +5,7 @@ use Rattle.std.proofs.lemmas.Bool.{both_ways}
 use Rattle.std.proofs.lemmas.List.Elements.{All-contains, All-contains_itself, All-filter, All-map, All-weaker, All-cons, All-nil}
 use Rattle.std.proofs.lemmas.List.Folds.{Any-from_list_any, list_any-from_Any}
 use Rattle.std.proofs.lemmas.List.Sums.{sum_by-cons}
-use Rattle.mat_model.proofs.Stood.{contains_cases, contains_first, contains_more}
+use Rattle.mat_model.proofs.Elements.{contains_cases, contains_first, contains_more}
 use Rattle.mat_model.proofs.ListTests.{or_false_parts}
 
 -- what is true of each element is true of all

@@ -12,10 +12,10 @@ use Rattle.mat_model.specs.declared.requests.Asked.{Asked}
 use Rattle.mat_model.specs.Books.{IsSummed}
 use Rattle.mat_model.specs.Declarations.{new_row}
 use Rattle.mat_model.specs.Rows.{are_apart, comes_before, covers, is_apart, is_at_path, is_clear_of, put_row, standing_row, used_row}
-use Rattle.mat_model.proofs.Apart.{apart_parts}
+use Rattle.mat_model.proofs.Apart.{apart_parts, above_overlap}
 use Rattle.mat_model.proofs.BooksLists.{all-mapped, all_each}
 use Rattle.mat_model.proofs.Serving.{Changes, Endings}
-use Rattle.mat_model.proofs.Stood.{above_overlap, contains_all, contains_cases, contains_first, contains_more}
+use Rattle.mat_model.proofs.Elements.{contains_all, contains_cases, contains_first, contains_more}
 use Rattle.mat_model.proofs.ListTests.{and_true_parts}
 
 -- a row of some that one was put among is that one, or was there

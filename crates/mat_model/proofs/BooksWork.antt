@@ -16,7 +16,7 @@ use Rattle.mat_model.proofs.BooksKept.{ticket_waits}
 use Rattle.mat_model.proofs.BooksLists.{any_contains, contains_any}
 use Rattle.mat_model.proofs.Idle.{none_lent}
 use Rattle.mat_model.proofs.Makes.{found_contains}
-use Rattle.mat_model.proofs.Stood.{contains_cases, found_passes}
+use Rattle.mat_model.proofs.Elements.{contains_cases, found_passes}
 
 -- something is found where an element passes
 found_some : {A : Type 0} (p : A → Bool) (xs : List A) → list_any p xs ≡ true → is_some (find p xs) ≡ true

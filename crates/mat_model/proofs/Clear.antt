@@ -4,17 +4,16 @@ use Rattle.std.specs.List.{list_any, filter}
 use Rattle.mat_path.specs.Names.{is_prefix, overlap}
 use Rattle.mat_path.proofs.PathLemmas.{same_names-eq, prefix-refl}
 use Rattle.mat_tree.specs.declared.flat.Flat.{Flat}
-use Rattle.mat_digest.specs.declared.digest.Digest.{Digest}
-use Rattle.mat_tree.specs.Trees.{file_sum, file_tree, same_tree}
+use Rattle.mat_tree.specs.Trees.{same_tree}
 use Rattle.mat_model.specs.declared.book.Book.{Book}
 use Rattle.mat_model.specs.declared.book.Row.{Row}
 use Rattle.mat_model.specs.declared.book.Ticket.{Ticket}
 use Rattle.mat_model.specs.declared.book.Hold.{Hold}
 use Rattle.mat_model.specs.declared.answers.Answer.TheVariants as answer
 use Rattle.mat_model.specs.declared.answers.Reply.TheVariants as reply
-use Rattle.mat_model.specs.Gate.{Served, is_live}
+use Rattle.mat_model.specs.Gate.{Served}
 use Rattle.mat_model.specs.Rows.{covers, is_at_path, is_clear_of, overlaps_row, put_row}
-use Rattle.mat_model.specs.Declarations.{declare, declare_row, is_equal_row, new_row, replace_rows, write}
+use Rattle.mat_model.specs.Declarations.{declare, declare_row, is_equal_row, new_row, replace_rows}
 use Rattle.mat_model.specs.Tickets.{is_open, left_ticket, with_answer, with_hold}
 use Rattle.mat_model.proofs.ListTests.{and_true_parts, filter_none, filter_all, find_none}
 
@@ -81,11 +80,3 @@ declare_clear number command path tree book clear =
 abbrev pub declared_alone : ℕ → ℕ → List (List ℕ) → List Flat → Book → Served
 declared_alone number command path tree book =
     changed book number (put_row (new_row number book.now path tree) book.rows) (with_hold command path book.holds) book.tickets
-
--- a file that a live command writes at a clear path
-pub write_clear : (number command : ℕ) (path : List (List ℕ)) (digest : Digest) (book : Book) →
-    is_live command book ≡ true → list_any (overlaps_row path) book.rows ≡ false →
-    write number command path (file_sum digest false) book
-    ≡ declared_alone number command path (file_tree digest false) book
-write_clear number command path digest book live clear =
-    rw live (declare_clear number command path (file_tree digest false) book clear)

@@ -11,7 +11,7 @@ use Rattle.mat_model.specs.declared.entries.Task.TheVariants as task
 use Rattle.mat_model.specs.Rows.{cover}
 use Rattle.mat_model.specs.Tickets.{is_open}
 use Rattle.mat_model.specs.Yard.{Debris, Job, Lent, Yard, first_make, first_task, has_stamp, idle_yard, is_debris_above, is_gone, is_kept_back, is_lent, is_lent_part, lent_by, make_of, may_wipe, removed_rows, task_of, way_of, wipe_of}
-use Rattle.mat_model.proofs.Stood.{contains_cases, contains_first, contains_more}
+use Rattle.mat_model.proofs.Elements.{contains_cases, contains_first, contains_more}
 
 -- nothing is lent where no job runs
 pub none_lent : (o : Option Lent) → option_map_or (is_lent_part []) o false ≡ false

@@ -44,7 +44,8 @@ use Rattle.mat_model.specs.Laws.{AreKept, HasDeclared, IsAnswered, IsGated, IsKe
 use Rattle.mat_model.specs.Kept.{may_fail, overlaps_kept}
 use Rattle.mat_model.proofs.ListTests.{and_true_parts, false_by, not_true, or_false_parts}
 use Rattle.mat_model.proofs.Apart.{put_row-apart, apart-map}
-use Rattle.mat_model.proofs.Stood.{used-path, used-tree, used-stands, standing-path, found_passes, contains_cases, contains_first, contains_more}
+use Rattle.mat_model.proofs.Changes.{standing-path, used-path, used-stands, used-tree}
+use Rattle.mat_model.proofs.Elements.{contains_cases, contains_first, contains_more, found_passes}
 use Rattle.mat_model.proofs.Serving.{Changes, asked_by, ended_beside, ended_by, finished_by, served_by}
 use Rattle.mat_model.proofs.Makes.{found_contains, make_of_parts, apart_declared, first_make_found}
 

@@ -1,7 +1,8 @@
 pub mod ListTests
 pub mod Clear
 pub mod Apart
-pub mod Stood
+pub mod Elements
+pub mod Changes
 pub mod Makes
 pub mod LegalLemmas
 pub mod Serving

@@ -15,7 +15,7 @@ use Rattle.mat_model.specs.Work.{is_declared}
 use Rattle.mat_model.specs.Yard.{Yard, first_make, is_debris_above, is_kept_back, is_lent, is_lent_part, lent_by, make_of, task_of, way_of}
 use Rattle.mat_model.proofs.ListTests.{and_true_parts, or_false_parts}
 use Rattle.mat_model.proofs.Apart.{apart_parts, overlap-refl}
-use Rattle.mat_model.proofs.Stood.{contains_first, contains_more, contains_cases, contains_all}
+use Rattle.mat_model.proofs.Elements.{contains_all, contains_cases, contains_first, contains_more}
 
 -- what is found is in the list
 pub found_contains : {A : Type 0} (q : A → Bool) (xs : List A) (y : A) → find q xs ≡ Some y → Contains xs y

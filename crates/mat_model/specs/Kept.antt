@@ -50,10 +50,6 @@ overlaps_kept path row = overlap row.path path
 abbrev pub is_kept_clear : List (List ℕ) → KeptRow → Bool
 is_kept_clear path row = not (overlaps_kept path row)
 
--- whether a stored row is at a path
-abbrev pub is_kept_at : List (List ℕ) → KeptRow → Bool
-is_kept_at path row = same_names row.path path
-
 -- whether a row is among those that a clean lists
 abbrev pub is_listed : List Gone → KeptRow → Bool
 is_listed gone row = list_any (λ (one : Gone). same_names one.path row.path) gone

@@ -1,12 +1,11 @@
 -- The rows of a book: which one covers a path, and how they stand in order.
-use Rattle.std.specs.Prelude.{ℕ, ◌&&◌, Bool, true, not, if◌then◌else◌, List, [], ◌∷◌, ◌++◌, length, drop, map, filter, find, Option}
-use Rattle.std.specs.List.{list_all, flat_map, filter_map}
-use Rattle.std.specs.Option.{option_map, option_and_then}
+use Rattle.std.specs.Prelude.{ℕ, ◌&&◌, Bool, true, not, if◌then◌else◌, List, [], ◌∷◌, ◌++◌, length, drop, map, find, Option}
+use Rattle.std.specs.List.{list_all, filter_map}
+use Rattle.std.specs.Option.{option_map}
 use Rattle.std.specs.Ordering.{is_lt}
 use Rattle.mat_path.specs.Names.{same_names, is_prefix, overlap, path_cmp, rest_below}
 use Rattle.mat_tree.specs.declared.flat.Flat.{Flat}
-use Rattle.mat_tree.specs.declared.flat.What.{What}
-use Rattle.mat_tree.specs.Trees.{has_node, what_at}
+use Rattle.mat_tree.specs.Trees.{has_node}
 use Rattle.mat_model.specs.declared.book.Row.{Row}
 
 -- whether one path comes before another
@@ -78,19 +77,3 @@ seen_node path root node = option_map (at_rel node) (rest_below path (root ++ no
 -- the nodes of a row that lie at and below a path, with rels from there
 abbrev pub seen_of : List (List ℕ) → Row → List Flat
 seen_of path row = filter_map (seen_node path row.path) row.tree
-
--- the nodes of the standing rows at and below a path, in order
-abbrev pub seen_below : List (List ℕ) → List Row → List Flat
-seen_below path rows = flat_map (seen_of path) (filter is_standing rows)
-
--- whether a place is at or below a row that stands
-abbrev pub stands_above : List (List ℕ) → Row → Bool
-stands_above place row = is_standing row && is_prefix row.path place
-
--- what a row's tree has at a place
-abbrev pub what_there : List (List ℕ) → Row → Option What
-what_there place row = what_at row.tree (drop (length row.path) place)
-
--- what the standing rows say that the disk has at a place
-abbrev pub stood_at : List Row → List (List ℕ) → Option What
-stood_at rows place = option_and_then (what_there place) (find (stands_above place) rows)

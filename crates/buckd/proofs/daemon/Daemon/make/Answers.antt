@@ -1,5 +1,6 @@
 -- A make: the run is where the definitions say, and the daemon is sound.
 use Rattle.std.proofs.Common.{◌≡◌, ◌∷◌, ◌++◌, [], ℕ, List, length, refl, ap, ◌∙◌}
+use Rattle.std.specs.Option.{is_some}
 use Rattle.mat_model.specs.declared.entries.Entry.{Entry}
 use Rattle.mat_model.specs.declared.entries.Event.TheVariants as event
 use Rattle.mat_model.specs.declared.entries.Task.TheVariants as task
@@ -58,7 +59,12 @@ returns-clause-sound c =
     (record { state = refl; live = refl; rows = refl; methods = refl; disk = refl }) refl (rw (← c.number-job.ensures) ends))
     c.enter_event-2.ensures
 
-pub make_part-requires : goal.make_part-requires
-make_part-requires c =
+pub make_part-requires-clause-found : goal.make_part-requires-clause-found
+make_part-requires-clause-found c =
+    let d0 = c.args.self.now in
+    ap is_some (first_make_found idle d0.rows.items d0.tickets.items c.args.path c.args.stamp c.requires.sound.kept.apart c.requires.first).2
+
+pub make_part-requires-clause-kept : goal.make_part-requires-clause-kept
+make_part-requires-clause-kept c =
     kept-with c.args.self.now (record c.args.self.now { history = c.enter_event.new.history }) _
     (record { state = refl; live = refl; rows = refl; methods = refl; disk = refl }) c.in_ok-enter_event.ensures c.requires.sound.kept
