@@ -117,4 +117,7 @@ awk -v blob="$blob" -v written="$written" -v made="$made_time" -v shown="$shown_
   BEGIN {
     tell("put, fetched and made (blobs twice, the write once)", 16 * blob + written, made, made_peer)
     tell("and shown (each file once more)", 24 * blob + 2 * written, shown, shown_peer)
+    printf "what the show adds: %d bytes hashed\n", 8 * blob + written
+    printf "  buckd replay 1: %.3f s\n  sha256sum: %.3f s\n", shown - made, shown_peer - made_peer
+    if (shown_peer > made_peer) printf "  buckd replay 1 / sha256sum: %.1f\n", (shown - made) / (shown_peer - made_peer)
   }'

@@ -398,7 +398,7 @@ act_may blobs (act.File rel digest exec from) = file_may blobs digest from
 act_may blobs act.Sync = refl
 
 -- a make doesn't end wiped
-outcome_may : (path : List (List ℕ)) (stamp : ℕ) (blobs : Blobs) (acts : List Act) → may_end (task.Make path stamp) (outcome_of blobs acts) ≡ true
+pub outcome_may : (path : List (List ℕ)) (stamp : ℕ) (blobs : Blobs) (acts : List Act) → may_end (task.Make path stamp) (outcome_of blobs acts) ≡ true
 outcome_may path stamp blobs [] = refl
 outcome_may path stamp blobs (one ∷ acts) =
     elim (act_failure blobs one) as

@@ -22,3 +22,4 @@ pub mod StoreLemmas
 pub mod PartLemmas
 pub mod MadeLemmas
 pub mod LegalRuns
+pub mod Drained

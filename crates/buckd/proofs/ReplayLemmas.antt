@@ -17,11 +17,11 @@ use Rattle.buckd.specs.declared.session.Session.{Session}
 use Rattle.buckd.specs.Daemon.{scene_of}
 use Rattle.buckd.specs.Lines.{before_end, has_end, lines_of, script_lines, whole_lines}
 use Rattle.buckd.specs.Run.{Scene}
-use Rattle.buckd.specs.Streams.{Feeds, FeedsLast, Flows, Follows, IsSoundAfter, Served, Stands, answered, fed_failed}
-use Rattle.buckd.specs.Replay.{Answers, HasRun, IsAt, IsFinished, IsHeldBy, IsLegalWhere, IsSoundAtEnd, IsWithin, Leaves, LeavesAt, Ran, RanOver, Replays, ReplaysBytes, end_of, has_run, input_failed, is_lost, is_sink_fault, is_source_fault, is_status, output_failed, status_of}
+use Rattle.buckd.specs.Streams.{TakesWithin, Feeds, FeedsLast, Flows, Follows, IsSoundAfter, Served, Stands, answered, fed_failed}
+use Rattle.buckd.specs.Replay.{Answers, HasRun, IsAt, IsFinished, IsHeldBy, IsHome, IsLegalWhere, IsSoundAtEnd, IsWithin, Leaves, LeavesAt, Ran, RanOver, Replays, ReplaysBytes, end_of, has_run, input_failed, is_lost, is_sink_fault, is_source_fault, is_status, output_failed, status_of}
 use Rattle.buckd.proofs.CauseLemmas.{run-cause}
 use Rattle.buckd.proofs.LineLemmas.{script_all, script_cut, script_ended, script_front}
-use Rattle.buckd.proofs.RunLemmas.{Longer, broke_longer, broke_part, flows_whole, is_going, longer_same, part_longer, served_broke, served_flows, served_same}
+use Rattle.buckd.proofs.RunLemmas.{Longer, broke_longer, flows_whole, is_going, longer_same, part_longer, served_broke, served_flows, served_same}
 
 -- ---- reading
 
@@ -89,6 +89,37 @@ pub reads_within : (before after : Option (List ℕ)) (front : List ℕ) (left :
 reads_within before after front left (got.Taken n) le reads = le_trans reads.1 le
 reads_within before after front left got.End le reads = tt
 reads_within before after front left got.Failed le reads = tt
+
+-- ---- how much is taken
+
+-- bytes were taken within the limit, and one piece more
+pub within_more : (limit left n : ℕ) (all mid after before out : Option (List ℕ)) (old : Session) (piece buffer : List ℕ)
+    → Taken limit left all mid before out old → TakesNext n mid after buffer → piece ≡ take n buffer → n ≤ length buffer → n ≤ left
+    → TakesWithin limit all after
+within_more limit left n all mid after before out old piece buffer taken takes same fits below =
+    let long : length piece ≡ n = ap length same ∙ length-take-le n buffer fits in (
+      taken.read ++ piece,
+      omega (arith, length-append taken.read piece, taken.count),
+      follows_more all mid after taken.read piece buffer n taken.follows takes same,
+    )
+
+-- bytes were taken within the limit, and then none
+pub within_stays : (limit left : ℕ) (all mid after before out : Option (List ℕ)) (old : Session) → Taken limit left all mid before out old
+    → Stays mid after → TakesWithin limit all after
+within_stays limit left all mid after before out old taken stays = (taken.read, omega (arith, taken.count), by_all all taken.follows)
+  where
+    by_all : (all : Option (List ℕ)) → Follows all taken.read mid → Follows all taken.read after
+    by_all None follows = tt
+    by_all (Some bytes) (rest, parts, is) = (rest, parts, subst (λ (o : Option (List ℕ)). Stays o after) is stays)
+
+-- bytes were taken within the limit
+pub within_now : (limit left : ℕ) (all mid before out : Option (List ℕ)) (old : Session) → Taken limit left all mid before out old → TakesWithin limit all mid
+within_now limit left all mid before out old taken = (taken.read, omega (arith, taken.count), taken.follows)
+
+-- none were taken
+pub within_none : (limit : ℕ) (all : Option (List ℕ)) → TakesWithin limit all all
+within_none limit None = ([], omega arith, tt)
+within_none limit (Some bytes) = ([], omega arith, (bytes, refl, refl))
 
 -- ---- the ends of reading
 
@@ -334,7 +365,7 @@ replays_bytes limit bytes after before now s ending.SinkFault ended is leaves ou
   no_memory = λ h. absurd (omega arith);
   source_fault = λ h. absurd (omega arith);
   sink_fault = λ h. record {
-    text = broke_part (script_lines limit bytes) before now s ran;
+    text = ran.text;
     front = ran.front;
     more = ran.more;
     parts = ran.parts;
@@ -368,7 +399,7 @@ replays limit None after before now s e ended is leaves out ran = tt
 replays limit (Some bytes) after before now s e ended is leaves out ran = replays_bytes limit bytes after before now s e ended is leaves out ran
 
 has_left : (ended : Ended) (scene : Scene) → has_run ended.status ≡ true → HasRun scene ended → Leaves ended
-has_left ended scene is has = record { run = has.run ∙ sym is; disk = has.disk ∙ sym is; held = has.held; legal = has.legal }
+has_left ended scene is has = record { run = has.run ∙ sym is; disk = has.disk ∙ sym is; held = has.held; home = has.home; legal = has.legal }
 
 pub leaves_by : (e : Ending) (scene : Scene) (ended : Ended) → ended.status ≡ status_of e → LeavesAt e scene ended → Leaves ended
 leaves_by ending.End scene ended is leaves = has_left ended scene (ap has_run is) leaves
@@ -376,6 +407,7 @@ leaves_by ending.NoMemory scene ended is leaves = record {
   run = ap is_some leaves.run ∙ sym (ap has_run is);
   disk = ap is_some leaves.disk ∙ sym (ap has_run is);
   held = subst (λ (run : Option Run). IsHeldBy run ended.disk) (sym leaves.run) tt;
+  home = subst IsHome (sym leaves.disk) tt;
   legal = subst IsLegalWhere (sym leaves.run) tt;
 }
 leaves_by ending.SourceFault scene ended is leaves = has_left ended scene (ap has_run is) leaves

@@ -65,6 +65,6 @@ IsCaused lines history place (event.Asked request) = ⊤
 IsCaused lines history place (event.Begin begun) = ⊤
 IsCaused lines history place (event.Done job ends) = Cause lines history place job ends
 
--- each end of a job in the history of the run of some lines has
+-- each end of a job in the history of the run of some lines has its cause
 abbrev pub AreCaused : List (List ℕ) → List Entry → Type 0
 AreCaused lines history = (place : ℕ) (entry : Entry) → slice_get history place ≡ Some entry → IsCaused lines history place entry.event

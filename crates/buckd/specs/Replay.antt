@@ -4,7 +4,7 @@ use Rattle.std.specs.Option.{is_some}
 use Rattle.std.specs.String.{string_bytes}
 use Rattle.mat_io.specs.declared.answer.Got.{Got}
 use Rattle.mat_io.specs.declared.answer.Got.TheVariants as got
-use Rattle.mat_io.specs.Streams.{Grows}
+use Rattle.mat_io.specs.Streams.{Grows, GrowsInPart}
 use Rattle.mat_model.specs.Holding.{AreHeld}
 use Rattle.region_port.specs.declared.mem_disk.MemDisk.{MemDisk}
 use Rattle.region_port.specs.Disks.{disk_content, disk_rough}
@@ -145,6 +145,10 @@ abbrev pub IsHeldBy : Option Run → Option MemDisk → Type 0
 IsHeldBy run disk =
     IfSome run (λ (r : Run). IfSome disk (λ (d : MemDisk). AreHeld (disk_content d) r.book.rows × AreSynced (disk_rough d) r.book.rows))
 
+-- a disk that is there is lent nowhere
+abbrev pub IsHome : Option MemDisk → Type 0
+IsHome disk = IfSome disk (λ (d : MemDisk). d.loans.items ≡ [])
+
 -- a run that is there has a legal history, and the book of it
 abbrev pub IsLegalWhere : Option Run → Type 0
 IsLegalWhere run = IfSome run IsLegalRun
@@ -155,6 +159,7 @@ pub record HasRun (scene : Scene) (ended : Ended) : Type 0 where
   pub disk : is_some ended.disk ≡ true
   pub at : IsAt scene ended
   pub held : IsHeldBy ended.run ended.disk
+  pub home : IsHome ended.disk
   pub legal : IsLegalWhere ended.run
 
 -- no run is there, and no disk
@@ -178,11 +183,12 @@ abbrev pub is_status : ℕ → Bool
 is_status status = has_run status || (status == 1)
 
 -- the run and the disk are there where the status has them, the history is legal and the book is the book of it, and
--- the disk holds the tree of each row that the book says stands, synced
+-- the disk holds the tree of each row that the book says stands, synced, and is lent nowhere
 pub record Leaves (ended : Ended) : Type 0 where
   pub run : is_some ended.run ≡ has_run ended.status
   pub disk : is_some ended.disk ≡ has_run ended.status
   pub held : IsHeldBy ended.run ended.disk
+  pub home : IsHome ended.disk
   pub legal : IsLegalWhere ended.run
 
 -- a run that is there has a history in which each make that failed did so for what the store held after some of these lines
@@ -207,12 +213,12 @@ pub record Interrupted (limit : ℕ) (bytes : List ℕ) (after before now : Opti
   pub going : has_end (whole_lines taken) ≡ false
   pub answers : Answers (whole_lines taken) before now ended
 
--- the output failed: a front of the text went out, and the run is where some of the lines from the front lead
+-- the output failed: some of the lines from the front were answered, the run is where they lead, and a front of their text went out
 pub record Failed (lines : List (List ℕ)) (before now : Option (List ℕ)) (ended : Ended) : Type 0 where
-  pub text : AnswersInPart lines before now
   pub front : List (List ℕ)
   pub more : List (List ℕ)
   pub parts : before_end lines ≡ front ++ more
+  pub text : GrowsInPart before now (tell_lines front start).text
   pub at : IsAt (tell_lines front start).scene ended
   pub causes : IsCausedBy front ended.run
 

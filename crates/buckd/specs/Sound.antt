@@ -37,7 +37,7 @@ pub record IsSupplied (history : List Entry) (kept : Kept) (row : Row) : Type 0 
   pub entered : row.stamp < length history
   pub held : is_held history row.stamp ≡ is_write method
 
--- each row has
+-- the same of each row
 abbrev pub AreSupplied : List Entry → Kept → List Row → Type 0
 AreSupplied history kept [] = Unit {0}
 AreSupplied history kept (row ∷ rows) = IsSupplied history kept row × AreSupplied history kept rows

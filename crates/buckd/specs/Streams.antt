@@ -143,3 +143,7 @@ fed_failed fed.NoMemory = false
 abbrev pub Follows : Option (List ℕ) → List ℕ → Option (List ℕ) → Type 0
 Follows None read now = ⊤
 Follows (Some bytes) read now = (rest : List ℕ) × (bytes ≡ read ++ rest) × (now ≡ Some rest)
+
+-- no more bytes than a limit were taken from a source
+abbrev pub TakesWithin : ℕ → Option (List ℕ) → Option (List ℕ) → Type 0
+TakesWithin limit before now = (read : List ℕ) × (length read ≤ limit) × Follows before read now

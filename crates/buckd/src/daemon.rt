@@ -1,4 +1,4 @@
-// A daemon over plain lists: its book, its history, and the disk that it writes.
+// A daemon over plain lists: its book, its history, the disk that it writes and the store that it reads.
 ghost use Rattle.std.specs.Prelude.{◌≡◌, ◌∷◌, ◌++◌, ◌+◌, ◌&&◌, ◌<◌, ◌≤◌, ◌^◌, [], ℕ, List, None, Some, find, length, true, false, IfOk, OnOk};
 ghost use Rattle.std.specs.List.{list_all, list_any};
 ghost use Rattle.std.specs.Option.{is_some, option_map};
@@ -19,6 +19,7 @@ ghost use Rattle.mat_model.specs.Gate.{is_live, enter};
 ghost use Rattle.mat_model.specs.Holding.{AreHeld};
 ghost use Rattle.mat_model.specs.Requests.{ensure, grant};
 ghost use Rattle.mat_model.specs.Rows.{overlaps_row};
+ghost use Rattle.mat_model.specs.Tickets.{is_open};
 ghost use Rattle.mat_model.specs.Work.{end_make, is_declared};
 ghost use Rattle.mat_model.specs.Yard.{first_task};
 ghost use Rattle.mat_model.proofs.Clear.{declared_alone};
@@ -147,12 +148,12 @@ fn enter_asked(history: &mut Vec<Entry>, asked: Asked, reply: &Reply) -> Result<
 
 impl Daemon {
     ghost use Rattle.buckd.specs.Daemon.{book_of, point_of, scene_of, task_for, Makes, Serves, Steps, Tells};
-    ghost use Rattle.buckd.specs.Legal.{IsLegalRun};
+    ghost use Rattle.buckd.specs.Legal.{IsLegalAt, IsLegalRun};
     ghost use Rattle.buckd.specs.Run.{acts_of, asked_of, declared_tree, drain, idle, is_not_yet, made, make_first, start, start_point, tell, tell_item};
     ghost use Rattle.script_lang.specs.declared.items.Item.TheVariants as item;
     ghost use Rattle.buckd.specs.Sound.{kept_by, AreSynced, IsKept, IsKeptWith, IsPast, IsReady, IsSound, KeepsBook, KeepsDisk, KeepsRows};
 
-    /// A daemon over an empty disk.
+    /// A daemon over an empty disk and an empty store, told by its parts.
     fn empty(alloc: Global) -> Daemon
         ensures point { point_of result ≡ start_point }
         ensures blobs { (digest : TheDigest) → blobs_of result.store digest ≡ None }
@@ -173,7 +174,7 @@ impl Daemon {
         }
     }
 
-    /// A daemon over an empty disk.
+    /// A daemon over an empty disk and an empty store, at the start of a legal history.
     pub fn new(alloc: Global) -> Daemon
         ensures start { scene_of result ≡ start }
         ensures sound { IsSound result }
@@ -188,6 +189,7 @@ impl Daemon {
         ensures history { result.0.history ≡ (point_of self).history }
         ensures held { AreHeld (disk_content result.1) result.0.book.rows }
         ensures synced { AreSynced (disk_rough result.1) result.0.book.rows }
+        ensures free { result.1.loans.items ≡ [] }
         ensures shown { shown_by (disk_content result.1) ≡ (scene_of self).disk }
     {
         let Daemon {
@@ -222,6 +224,7 @@ impl Daemon {
         ensures history { result.0.history ≡ (point_of self).history }
         ensures held { AreHeld (disk_content result.1) result.0.book.rows }
         ensures synced { AreSynced (disk_rough result.1) result.0.book.rows }
+        ensures free { result.1.loans.items ≡ [] }
         ensures shown { shown_by (disk_content result.1) ≡ (scene_of self).disk }
         ensures legal { IsLegalRun result.0 }
     {
@@ -554,11 +557,12 @@ impl Daemon {
         }
     }
 
-    /// Makes each row that has an open ticket, the one with the lowest ticket first.
+    /// Makes each row that has an open ticket, the one with the lowest ticket first, until no ticket is open.
     fn drain(&mut self) -> Result<(), Memory>
         requires { IsReady self.old }
         ensures scene { OnOk result (scene_of self.new ≡ drain (scene_of self.old)) }
         ensures sound { OnOk result (IsReady self.new) }
+        ensures drained { OnOk result (IsLegalAt (point_of self.old) → list_any is_open self.new.tickets.items ≡ false) }
     {
         let count = tickets::open_count(self.tickets.as_slice());
         for done in 0..count {
@@ -645,7 +649,7 @@ impl Daemon {
         }
     }
 
-    /// Answers a line.
+    /// Answers a line, from a daemon that may serve.
     fn tell_line(&mut self, line: Line, out: &mut Vec<u8>) -> Result<(), Memory>
         requires bounds { HasLineBounds 1 line }
         requires sound { IsReady self.old }
@@ -661,7 +665,7 @@ impl Daemon {
         }
     }
 
-    /// Answers a line.
+    /// Answers a line. The history stays legal.
     pub fn tell(&mut self, line: Line, out: &mut Vec<u8>) -> Result<(), Memory>
         requires bounds { HasLineBounds 1 line }
         requires sound { IsSound self.old }

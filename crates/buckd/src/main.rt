@@ -15,25 +15,40 @@ mod top;
 mod worked;
 
 use mat_io::{StdSink, StdSource};
-use std::env;
+use std::io::ErrorKind;
 use std::process::ExitCode;
+use std::{env, io};
 
 /// How the program is called.
 const USAGE: &str = "usage: buckd replay 1 < script";
 
-/// The words of the command line behind the program's name, where they are text.
-fn words_of(rt: &HostRuntime) -> Option<Vec<String>> {
-    let mut args = env::args(rt).ok()?;
+/// The status where the words can't be had: 1 for want of memory, 2 where they aren't text.
+fn status_of(error: &io::Error) -> u8 {
+    match error.kind() {
+        ErrorKind::OutOfMemory => 1,
+        _ => 2,
+    }
+}
+
+/// The words of the command line behind the program's name, or the status where they can't be had.
+fn words_of(rt: &HostRuntime) -> Result<Vec<String>, u8> {
+    let mut args = match env::args(rt) {
+        Ok(args) => args,
+        Err(error) => return Err(status_of(&error)),
+    };
     let _program = args.next();
-    args.collect(rt.alloc()).ok()
+    match args.collect(rt.alloc()) {
+        Ok(words) => Ok(words),
+        Err(_) => Err(1),
+    }
 }
 
 fn main(rt: HostRuntime) -> ExitCode {
     let mut input = StdSource::new(rt.stdin());
     let mut output = StdSink::new(rt.stdout());
     let status = match words_of(&rt) {
-        Some(words) => top::buckd(rt.alloc(), words.as_slice(), &mut input, &mut output).status,
-        None => 2,
+        Ok(words) => top::buckd(rt.alloc(), words.as_slice(), &mut input, &mut output).status,
+        Err(status) => status,
     };
     if status == 2 {
         let _ = eprintln!(rt; "{USAGE}");

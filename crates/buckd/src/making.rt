@@ -31,7 +31,7 @@ enum Brought {
     Failure(Outcome),
 }
 
-/// Whether a call on a region did its work. A region in memory fails only where it was armed, and none is here.
+/// That a call on a region did its work. A region in memory fails only where it was armed, and none is here.
 fn done(did: Did) -> Result<(), Memory>
     ensures { OnOk result (did ≡ Did.Done) }
 {

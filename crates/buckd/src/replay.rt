@@ -5,7 +5,7 @@ ghost use Rattle.mat_io.specs.Streams.{Reads};
 ghost use Rattle.mat_io.specs.Causes.{HasCause};
 ghost use Rattle.buckd.specs.Daemon.{scene_of};
 ghost use Rattle.buckd.specs.Sound.{IsSound};
-ghost use Rattle.buckd.specs.Streams.{IsSmall, Stands};
+ghost use Rattle.buckd.specs.Streams.{IsSmall, Stands, TakesWithin};
 ghost use Rattle.buckd.specs.Replay.{IsFinished, IsSoundAtEnd, IsWithin, Leaves, LeavesAt, Ran, Replays, end_of, input_failed, input_limit, is_lost, is_sink_fault, is_source_fault, is_status, output_failed, status_of};
 
 use crate::daemon::Run;
@@ -27,7 +27,7 @@ pub struct Ended {
     /// 0 where a line `end` was read, 1 for want of memory, 2 for other words, 3 where the input failed, 4 where the
     /// output failed, 5 where the input ended before a line `end`, 7 where it was longer than is read.
     pub status: u8,
-    /// The book and the history at the end, but for statuses 1 and 2.
+    /// The book and the history at the end: there exactly with statuses 0, 3, 4, 5 and 7.
     pub run: Option<Run>,
     /// The disk at the end, where the run is there.
     pub disk: Option<MemDisk>,
@@ -36,7 +36,7 @@ pub struct Ended {
 /// Why a run ended.
 #[derive(Clone, Copy, Debug, PartialEq, Eq)]
 enum Ending {
-    /// A line ended the script.
+    /// A line `end` was read.
     End,
     /// Want of memory.
     NoMemory,
@@ -44,9 +44,9 @@ enum Ending {
     SourceFault,
     /// The output failed.
     SinkFault,
-    /// The input ended before such a line.
+    /// The input ended before a line `end`.
     NoEnd,
-    /// The limit of bytes was read before such a line.
+    /// The limit of bytes was read before a line `end`.
     Cut,
 }
 
@@ -87,6 +87,7 @@ pub fn replay<S: Source, T: Sink>(
 ) -> Ended
     requires { workers ≡ 1 }
     ensures replays { Replays input_limit (S.left input.old) (S.left input.new) (T.out output.old) (T.out output.new) result }
+    ensures taken { TakesWithin input_limit (S.left input.old) (S.left input.new) }
     ensures status { is_status result.status ≡ true }
     ensures leaves { Leaves result }
     ensures source { HasCause (S.faults input.old) (S.faults input.new) (input_failed result) }
@@ -104,6 +105,7 @@ pub(crate) fn run_within<S: Source, T: Sink>(
     output: &mut T,
 ) -> Ended
     ensures replays { Replays limit (S.left input.old) (S.left input.new) (T.out output.old) (T.out output.new) result }
+    ensures taken { TakesWithin limit (S.left input.old) (S.left input.new) }
     ensures status { is_status result.status ≡ true }
     ensures leaves { Leaves result }
     ensures source { HasCause (S.faults input.old) (S.faults input.new) (input_failed result) }
@@ -127,6 +129,7 @@ fn read_all<S: Source, T: Sink>(
     requires small { IsSmall session.old }
     requires start { Stands [] (T.out output.old) (T.out output.old) session.old }
     ensures ran { Ran limit (S.left input.old) (S.left input.new) (T.out output.old) (T.out output.new) session.new result }
+    ensures taken { TakesWithin limit (S.left input.old) (S.left input.new) }
     ensures sound { IsSoundAtEnd result session.new.daemon }
     ensures source { HasCause (S.faults input.old) (S.faults input.new) (is_source_fault result) }
     ensures sink { HasCause (T.faults output.old) (T.faults output.new) (is_sink_fault result) }
@@ -151,6 +154,7 @@ fn read_with<S: Source, T: Sink>(
     requires start { Stands [] (T.out output.old) (T.out output.old) session.old }
     requires room { length buffer.old ≡ CHUNK }
     ensures ran { Ran limit (S.left input.old) (S.left input.new) (T.out output.old) (T.out output.new) session.new result }
+    ensures taken { TakesWithin limit (S.left input.old) (S.left input.new) }
     ensures sound { IsSoundAtEnd result session.new.daemon }
     ensures source { HasCause (S.faults input.old) (S.faults input.new) (is_source_fault result) }
     ensures sink { HasCause (T.faults output.old) (T.faults output.new) (is_sink_fault result) }
@@ -233,8 +237,8 @@ fn make_ended(alloc: Global, session: Session, ending: Ending) -> Ended
     }
     let Session {
         daemon,
-        gathered,
-        partial,
+        gathered: _,
+        partial: _,
     } = session;
     let (run, disk) = daemon.into_parts(alloc);
     Ended {

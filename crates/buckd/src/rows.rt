@@ -26,7 +26,7 @@ pub fn cover<'a>(rows: &'a [Row], path: &Path) -> Option<&'a Row>
     rows.iter().find(|row| covers(row, path))
 }
 
-/// Whether a row overlaps a path.
+/// Whether any row overlaps a path.
 pub fn any_overlaps(rows: &[Row], path: &Path) -> bool
     ensures { result ≡ list_any (overlaps_row path.now) rows.now }
 {

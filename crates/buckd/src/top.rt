@@ -1,6 +1,7 @@
 // The top call: what the program does with its words.
 ghost use Rattle.std.specs.Prelude.{◌≡◌, true, false};
 ghost use Rattle.mat_io.specs.Causes.{HasCause};
+ghost use Rattle.buckd.specs.Streams.{TakesWithin};
 ghost use Rattle.buckd.specs.Replay.{Leaves, Replays, input_failed, input_limit, is_replay, is_status_of, output_failed};
 
 use crate::replay::{Ended, replay};
@@ -26,6 +27,7 @@ pub fn buckd<S: Source, T: Sink>(
     output: &mut T,
 ) -> Ended
     ensures replays { is_replay words.now ≡ true → Replays input_limit (S.left input.old) (S.left input.new) (T.out output.old) (T.out output.new) result }
+    ensures taken { is_replay words.now ≡ true → TakesWithin input_limit (S.left input.old) (S.left input.new) }
     ensures status { is_status_of (is_replay words.now) result.status ≡ true }
     ensures leaves { Leaves result }
     ensures input { is_replay words.now ≡ false → input.new ≡ input.old }

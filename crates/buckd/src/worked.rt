@@ -130,6 +130,40 @@ const FAILED_MAKE: (&[u8], &[u8]) = (
           asks 5\n",
 );
 
+/// Declarations and writes that aren't served, or not yet, and another digest of no bytes, which is asked for.
+const REFUSED: (&[u8], &[u8]) = (
+    b"write 1 p 61\n\
+      declare 1 p d .\n\
+      enter 1 7\n\
+      enter 2 7\n\
+      write 1 p 61\n\
+      declare 1 p/q d .\n\
+      write 1 p 62\n\
+      write 2 p 62\n\
+      declare 2 p d .\n\
+      declare 1 e f ca978112ca1bbdcafac231b39a23dc4da786eff8147c4e72b9807785afee48bb:0 .\n\
+      ensure 1 e\n\
+      drain\n\
+      asks\n\
+      restart\n\
+      end\n",
+    b"notlive\n\
+      notlive\n\
+      entered\n\
+      notyet\n\
+      declared 3\n\
+      notyet\n\
+      notyet\n\
+      notlive\n\
+      notlive\n\
+      declared 6\n\
+      open 7\n\
+      drained\n\
+      answer 7 missing ca978112ca1bbdcafac231b39a23dc4da786eff8147c4e72b9807785afee48bb:0\n\
+      asks 1\n\
+      notyet\n",
+);
+
 #[test]
 fn worked_runs(rt: HostRuntime) -> Result<(), Fail> {
     let table = [
@@ -138,6 +172,7 @@ fn worked_runs(rt: HostRuntime) -> Result<(), Fail> {
         MISSING_THEN_STORED,
         LYING_STORE,
         FAILED_MAKE,
+        REFUSED,
     ];
     for (script, text) in table.iter() {
         let bytes = Vec::from_slice(rt.alloc(), *script)?;

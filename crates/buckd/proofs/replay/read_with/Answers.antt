@@ -1,6 +1,6 @@
 use Rattle.std.proofs.Common.{◌≡◌, ◌+◌, ◌-◌, false, refl, arith}
 use Rattle.buckd.specs.declared.session.Fed.TheVariants as fed
-use Rattle.buckd.proofs.ReplayLemmas.{ends_alike, piece_ended, reading_cut, sound_alike, source_ended, source_failed, taken_more, taken_none}
+use Rattle.buckd.proofs.ReplayLemmas.{ends_alike, piece_ended, reading_cut, sound_alike, source_ended, source_failed, taken_more, taken_none, within_more, within_now, within_stays}
 use Rattle.buckd.proofs.RunLemmas.{cause_after, no_cause}
 use Rattle.buckd.proofs.replay.read_with.Goals as goal
 
@@ -93,3 +93,31 @@ returns-clause-source g c = no_cause _ _ c.chunks.invariant.source
 
 pub returns-clause-sink : goal.returns-clause-sink
 returns-clause-sink g c = no_cause _ _ c.chunks.invariant.sink
+
+pub returns-in-Ended-clause-taken : goal.returns-in-Ended-clause-taken
+returns-in-Ended-clause-taken g c =
+    within_more c.args.limit c.chunks.left c.in-Taken.count _ (g.S.Source.left c.chunks.input) _ _ (g.T.Sink.out c.chunks.output) c.chunks.session
+    _ c.read_piece.new.buffer c.chunks.invariant.taken c.in-Taken.ensures.reads.2 refl c.in-Taken.ensures.reads.1 c.in-Taken.ensures.within
+
+pub returns-in-Failed-feed-clause-taken : goal.returns-in-Failed-feed-clause-taken
+returns-in-Failed-feed-clause-taken g c =
+    within_more c.args.limit c.chunks.left c.in-Taken.count _ (g.S.Source.left c.chunks.input) _ _ (g.T.Sink.out c.chunks.output) c.chunks.session
+    _ c.read_piece.new.buffer c.chunks.invariant.taken c.in-Taken.ensures.reads.2 refl c.in-Taken.ensures.reads.1 c.in-Taken.ensures.within
+
+pub returns-in-NoMemory-clause-taken : goal.returns-in-NoMemory-clause-taken
+returns-in-NoMemory-clause-taken g c =
+    within_more c.args.limit c.chunks.left c.in-Taken.count _ (g.S.Source.left c.chunks.input) _ _ (g.T.Sink.out c.chunks.output) c.chunks.session
+    _ c.read_piece.new.buffer c.chunks.invariant.taken c.in-Taken.ensures.reads.2 refl c.in-Taken.ensures.reads.1 c.in-Taken.ensures.within
+
+pub returns-in-End-clause-taken : goal.returns-in-End-clause-taken
+returns-in-End-clause-taken g c =
+    within_stays c.args.limit c.chunks.left _ (g.S.Source.left c.chunks.input) _ _ (g.T.Sink.out c.chunks.output) c.chunks.session c.chunks.invariant.taken
+    c.in-End.ensures.reads.1
+
+pub returns-in-Failed-clause-taken : goal.returns-in-Failed-clause-taken
+returns-in-Failed-clause-taken g c =
+    within_stays c.args.limit c.chunks.left _ (g.S.Source.left c.chunks.input) _ _ (g.T.Sink.out c.chunks.output) c.chunks.session c.chunks.invariant.taken
+    c.in-Failed.ensures.reads
+
+pub returns-clause-taken : goal.returns-clause-taken
+returns-clause-taken g c = within_now c.args.limit c.chunks.left _ _ _ (g.T.Sink.out c.chunks.output) c.chunks.session c.chunks.invariant.taken
