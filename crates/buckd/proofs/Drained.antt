@@ -32,7 +32,7 @@ use Rattle.mat_model.proofs.Makes.{apart_at, first_make_found, found_contains, m
 use Rattle.write_plan.specs.declared.act.Act.{Act}
 use Rattle.buckd.specs.declared.daemon.Daemon.{Daemon}
 use Rattle.buckd.specs.Daemon.{point_of, scene_of}
-use Rattle.buckd.specs.Ends.{answer_of, tickets_answered}
+use Rattle.buckd.specs.MakeAnswers.{answer_of, tickets_answered}
 use Rattle.buckd.specs.Legal.{IsLawful, IsLegalAt, new_daemon}
 use Rattle.buckd.specs.Making.{outcome_of}
 use Rattle.buckd.specs.Run.{Point, Scene, acts_of, begin, drain, empty_book, idle, made, made_if, make_first, makes, next}

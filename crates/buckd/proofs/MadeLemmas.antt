@@ -40,7 +40,7 @@ use Rattle.region_port.specs.Disks.{disk_content, disk_rough}
 use Rattle.write_plan.specs.declared.act.Act.{Act}
 use Rattle.buckd.specs.declared.daemon.Daemon.{Daemon}
 use Rattle.buckd.specs.Daemon.{book_of, point_of, scene_of, Makes, Serves}
-use Rattle.buckd.specs.Ends.{answer_of, tickets_answered}
+use Rattle.buckd.specs.MakeAnswers.{answer_of, tickets_answered}
 use Rattle.buckd.specs.Making.{Nodes, acts_done, asks_after, left_by, make_acts, no_nodes, outcome_of, shown_by, with_nodes}
 use Rattle.buckd.specs.Run.{Point, Scene, acts_of, declared_tree, entry_at, is_held, made, tree_of_row, worked}
 use Rattle.buckd.specs.Shows.{IsCovered}

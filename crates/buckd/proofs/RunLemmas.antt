@@ -21,7 +21,7 @@ use Rattle.buckd.specs.declared.session.Session.{Session}
 use Rattle.buckd.specs.Daemon.{scene_of}
 use Rattle.buckd.specs.Lines.{Cuts, IsLine, before_end, has_end, last_line, line_of, lines_of, whole_lines}
 use Rattle.buckd.specs.Run.{Scene, start, tell, tell_lines}
-use Rattle.buckd.specs.Streams.{AnswersInPart, Broke, Ends, Feeds, Flowed, Flows, Served, Serves, Stands, answered, ends, fed_failed, gone_to, kept}
+use Rattle.buckd.specs.Streams.{AnswersInPart, Broke, Ends, Feeds, Flowed, Flows, Served, TellsLine, Stands, answered, ends, fed_failed, gone_to, kept}
 use Rattle.buckd.proofs.LineLemmas.{before_cons, before_end_closed, before_end_goes_on, before_end_none, before_end_open, end_is, has_end_append, keep_more, last_more, last_newline, lines_split, whole_go_on, whole_more, whole_newline}
 
 -- ---- lines one after another
@@ -163,7 +163,7 @@ flows_whole (Some out) now gathered text e (gone, same, parts) =
 
 -- one more line was served
 pub serves_more : (lines : List (List ℕ)) (text said : List ℕ) (before now : Option (List ℕ)) (old : Session) (new : Session) (ended : Bool)
-    → has_end lines ≡ false → line_of said ≡ line_of text → Served lines before now old → Serves said old.daemon old.gathered.items new ended
+    → has_end lines ≡ false → line_of said ≡ line_of text → Served lines before now old → TellsLine said old.daemon old.gathered.items new ended
     → Served (lines ++ text ∷ []) before now new
 serves_more lines text said before now old new ended open_ same served serves = record {
   scene = serves.scene ∙ ap (λ (l : Line). (tell l (scene_of old.daemon)).scene) same
@@ -176,7 +176,7 @@ serves_more lines text said before now old new ended open_ same served serves = 
 }
 
 pub serves_end : (lines : List (List ℕ)) (text said : List ℕ) (old : Daemon) (gathered : List ℕ) (new : Session) (ended : Bool)
-    → has_end lines ≡ false → line_of said ≡ line_of text → Serves said old gathered new ended → has_end (lines ++ text ∷ []) ≡ ended
+    → has_end lines ≡ false → line_of said ≡ line_of text → TellsLine said old gathered new ended → has_end (lines ++ text ∷ []) ≡ ended
 serves_end lines text said old gathered new ended open_ same serves =
     has_end_one lines text open_ ∙ sym (ends_line text) ∙ ap ends (sym same) ∙ sym serves.ended
 
@@ -318,7 +318,7 @@ pub record LineServed (read : List ℕ) (before now : Option (List ℕ)) (s : Se
 
 pub line_served : (read line said : List ℕ) (before now : Option (List ℕ)) (old new : Session) (ended : Bool) → IsLine line
     → said ≡ old.partial.items ++ take (kept - length old.partial.items) line
-    → Serves said old.daemon old.gathered.items new ended
+    → TellsLine said old.daemon old.gathered.items new ended
     → Stands read before now old → LineServed (read ++ (line ++ 10 ∷ [])) before now new ended
 line_served read line said before now old new ended is e serves stands =
     let same : line_of said ≡ line_of (last_line read ++ line)
@@ -355,7 +355,7 @@ gone_failed put.NoMemory = refl
 
 -- the last line was served
 pub last_served : (read : List ℕ) (before now : Option (List ℕ)) (old new : Session) (ended : Bool)
-    → Serves old.partial.items old.daemon old.gathered.items new ended → Stands read before now old
+    → TellsLine old.partial.items old.daemon old.gathered.items new ended → Stands read before now old
     → (has_end (lines_of read) ≡ ended) × Served (lines_of read) before now new
 last_served read before now old new ended serves stands =
     let same : line_of old.partial.items ≡ line_of (last_line read) = ap line_of stands.partial ∙ line_of_kept (last_line read) in (

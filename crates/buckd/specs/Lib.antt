@@ -7,7 +7,7 @@ pub mod Sound
 pub mod Making
 pub mod Shows
 pub mod Brought
-pub mod Ends
+pub mod MakeAnswers
 pub mod Streams
 pub mod Causes
 pub mod Replay

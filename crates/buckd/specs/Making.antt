@@ -196,6 +196,10 @@ make_acts held tree = plan_of tree (method_for held) false
 abbrev pub with_nodes : List (List ℕ) → Nodes → Nodes → Nodes
 with_nodes path inner nodes place = if is_prefix path place then inner (drop (length path) place) else nodes place
 
+-- what a disk has at and below a path, by rels from there
+abbrev pub nodes_below : List (List ℕ) → Nodes → Nodes
+nodes_below path nodes rel = nodes (path ++ rel)
+
 -- what a part of a disk shows: each file by its digest
 abbrev pub shown_by : Part → Nodes
 shown_by part place = option_map declared_by (part place)

@@ -12,6 +12,7 @@ use Rattle.mat_model.specs.declared.entries.Entry.{Entry}
 use Rattle.mat_model.specs.declared.entries.Event.{Event}
 use Rattle.mat_model.specs.declared.entries.Event.TheVariants as event
 use Rattle.mat_model.specs.declared.entries.Outcome.{Outcome}
+use Rattle.mat_model.specs.declared.entries.Outcome.TheVariants as outcome
 use Rattle.mat_model.specs.declared.entries.Task.{Task}
 use Rattle.mat_model.specs.declared.entries.Task.TheVariants as task
 use Rattle.mat_model.specs.declared.answers.Recorded.TheVariants as recorded
@@ -29,6 +30,7 @@ use Rattle.mat_model.specs.Work.{finish, is_declared}
 use Rattle.mat_model.specs.Yard.{Yard, first_task, idle_yard, path_of_task}
 use Rattle.fetch_port.specs.Fetches.{Blobs}
 use Rattle.write_plan.specs.declared.act.Act.{Act}
+use Rattle.write_plan.specs.declared.act.Act.TheVariants as act
 use Rattle.script_lang.specs.declared.items.Item.{Item}
 use Rattle.script_lang.specs.declared.items.Item.TheVariants as item
 use Rattle.script_lang.specs.declared.items.Line.{Line}
@@ -36,7 +38,7 @@ use Rattle.script_lang.specs.declared.items.Line.TheVariants as line
 use Rattle.script_lang.specs.declared.told.Said.TheVariants as said
 use Rattle.script_lang.specs.Texts.{not_yet_text, reply_text, unread_text}
 use Rattle.buckd.specs.Lines.{line_of}
-use Rattle.buckd.specs.Making.{Nodes, acts_done, asks_after, left_by, make_acts, no_nodes, outcome_of, with_nodes}
+use Rattle.buckd.specs.Making.{Nodes, acts_done, asks_after, left_by, make_acts, no_nodes, nodes_below, outcome_of, with_nodes}
 use Rattle.buckd.specs.Shows.{nodes_there}
 use Rattle.buckd.specs.Texts.{answer_lines, said_line}
 
@@ -162,18 +164,23 @@ tree_of_row row = row.tree
 abbrev pub declared_tree : List (List ℕ) → ℕ → List Row → List Flat
 declared_tree path stamp rows = option_map_or tree_of_row (find (is_declared path stamp) rows) []
 
--- the acts of a task: those of a make's plan
+-- the acts of a task: those of a make's plan, or a wipe and a sync
 abbrev pub acts_of : Task → Point → List Act
 acts_of (task.Make path stamp) point = make_acts (is_held point.history stamp) (declared_tree path stamp point.book.rows)
-acts_of (task.Wipe path) point = []
+acts_of (task.Wipe path) point = act.Wipe ∷ act.Sync ∷ []
+
+-- how a task ends whose acts came to an outcome: a wipe that was carried out ends wiped
+abbrev pub ends_as : Task → Outcome → Outcome
+ends_as (task.Make path stamp) ended = ended
+ends_as (task.Wipe path) ended = outcome.Wiped
 
 -- some acts for a task: they are carried out up to the first that fails, and so the task ends
 abbrev pub carried : Task → List Act → Scene → Scene
 carried task acts scene = record {
-  point = worked task (outcome_of scene.blobs acts) scene.point;
+  point = worked task (ends_as task (outcome_of scene.blobs acts)) scene.point;
   blobs = scene.blobs;
   asks = asks_after scene.blobs acts scene.asks;
-  disk = with_nodes (path_of_task task) (left_by (acts_done scene.blobs acts) no_nodes) scene.disk;
+  disk = with_nodes (path_of_task task) (left_by (acts_done scene.blobs acts) (nodes_below (path_of_task task) scene.disk)) scene.disk;
 }
 
 -- a make

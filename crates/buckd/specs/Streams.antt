@@ -58,7 +58,7 @@ ends (line.Item it) = false
 ends line.NoMemory = false
 
 -- the bytes of a line were served
-pub record Serves (said : List ℕ) (old : Daemon) (gathered : List ℕ) (new : Session) (ending : Bool) : Type 0 where
+pub record TellsLine (said : List ℕ) (old : Daemon) (gathered : List ℕ) (new : Session) (ending : Bool) : Type 0 where
   pub scene : scene_of new.daemon ≡ (tell (line_of said) (scene_of old)).scene
   pub text : new.gathered.items ≡ gathered ++ (tell (line_of said) (scene_of old)).text
   pub partial : new.partial.items ≡ []

@@ -39,7 +39,7 @@ pub struct Session {
 
 impl Session {
     ghost use Rattle.buckd.specs.Sound.{IsSound};
-    ghost use Rattle.buckd.specs.Streams.{FeedsLast, Feeds, IsSmall, IsSmallAfter, IsSoundAfter, Serves, Stands, fed_failed};
+    ghost use Rattle.buckd.specs.Streams.{FeedsLast, Feeds, IsSmall, IsSmallAfter, IsSoundAfter, TellsLine, Stands, fed_failed};
 
     /// A run that begins.
     pub fn new(alloc: Global) -> Session
@@ -54,10 +54,10 @@ impl Session {
         }
     }
 
-    // Serves the line that is kept.
+    // TellsLine the line that is kept.
     fn serve_line(&mut self, alloc: Global) -> Result<bool, Memory>
         requires { IsSound self.old.daemon }
-        ensures { IfOk result (λ ended. Serves self.old.partial.items self.old.daemon self.old.gathered.items self.new ended) }
+        ensures { IfOk result (λ ended. TellsLine self.old.partial.items self.old.daemon self.old.gathered.items self.new ended) }
     {
         let line = read(alloc, self.partial.as_slice())?;
         self.partial.clear();
@@ -66,16 +66,16 @@ impl Session {
         Ok(ended)
     }
 
-    // Serves the line whose last bytes these are.
+    // TellsLine the line whose last bytes these are.
     fn serve_with(&mut self, alloc: Global, bytes: &[u8]) -> Result<bool, Memory>
         requires { IsSound self.old.daemon }
-        ensures { IfOk result (λ ended. Serves (self.old.partial.items ++ take (kept - length self.old.partial.items) bytes.now) self.old.daemon self.old.gathered.items self.new ended) }
+        ensures { IfOk result (λ ended. TellsLine (self.old.partial.items ++ take (kept - length self.old.partial.items) bytes.now) self.old.daemon self.old.gathered.items self.new ended) }
     {
         keep(&mut self.partial, bytes)?;
         self.serve_line(alloc)
     }
 
-    // Serves a line that a newline ends, whose last bytes these are.
+    // TellsLine a line that a newline ends, whose last bytes these are.
     fn end_line<T: Sink>(&mut self, alloc: Global, bytes: &[u8], output: &mut T) -> Fed
         requires sound { IsSound self.old.daemon }
         requires line { IsLine bytes.now }
@@ -130,7 +130,7 @@ impl Session {
         self.hold(rest)
     }
 
-    /// Serves the last line, which no newline ends.
+    /// TellsLine the last line, which no newline ends.
     pub fn feed_last(&mut self, alloc: Global) -> Fed
         requires { IsSound self.old.daemon }
         ensures fed { (read : List ℕ) (before out : Option (List ℕ)) → Stands read before out self.old → FeedsLast (lines_of read) before out self.new result }
