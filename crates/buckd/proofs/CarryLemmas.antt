@@ -1,4 +1,5 @@
 -- Acts that are carried out one after the other.
+use Rattle.std.specs.Cmp.{second_so}
 use Rattle.std.proofs.Common.{◌≡◌, ℕ, ◌+◌, ◌<◌, true, List, [], ◌∷◌, drop, length, get_or, Option, Some, None, if◌then◌else◌, refl, ap, ◌∙◌, sym, subst}
 use Rattle.std.proofs.lemmas.List.{drop_more}
 use Rattle.std.specs.List.{list_all}
@@ -6,7 +7,6 @@ use Rattle.std.specs.Option.{is_some}
 use Rattle.mat_model.specs.declared.entries.Outcome.{Outcome}
 use Rattle.mat_model.specs.declared.entries.Outcome.TheVariants as outcome
 use Rattle.mat_tree.specs.Parts.{Part}
-use Rattle.mat_tree.proofs.Joins.{and_right}
 use Rattle.fetch_port.specs.Fetches.{Blobs}
 use Rattle.fetch_port.specs.declared.mem_store.MemStore.{MemStore}
 use Rattle.region_port.specs.Calls.{Paths}
@@ -65,8 +65,8 @@ next_is f acts i one now start more is leads =
 pub leads-step : (f : Fixed) (one : Act) (left : List Act) (failure : Option Outcome) (now next : At) (acts : List Act) (start : At) →
     Passes f one failure now next → failure ≡ None → Leads f (one ∷ left) now acts start → Leads f left next acts start
 leads-step f one left failure now next acts start passes none leads = record {
-  fit = and_right (fits f.place one) (list_all (fits f.place) left) leads.fit;
-  have = and_right (is_supplied f.way one) (list_all (is_supplied f.way) left) leads.have;
+  fit = second_so (fits f.place one) (list_all (fits f.place) left) leads.fit;
+  have = second_so (is_supplied f.way one) (list_all (is_supplied f.way) left) leads.have;
   ends = λ failed last e. leads.ends failed last (ends failed last e);
 }
   where

@@ -18,7 +18,7 @@ use Rattle.buckd.specs.declared.replay.Ended.{Ended}
 use Rattle.buckd.specs.Causes.{AreCaused, event_of, IsCaused}
 use Rattle.buckd.specs.Lines.{line_of}
 use Rattle.buckd.specs.Replay.{IsAt, IsCausedBy, run_at}
-use Rattle.buckd.specs.Run.{Point, Scene, ask, asked_of, entry_at, is_not_yet, next, nothing_aside, start, tell, tell_asked, tell_item, tell_lines, told_not_yet}
+use Rattle.buckd.specs.Run.{Point, Scene, ask, asked_of, entry_at, is_not_yet, next, empty_context, start, tell, tell_asked, tell_item, tell_lines, told_not_yet}
 use Rattle.buckd.proofs.LegalRuns.{start-at, tell_lines-at}
 use Rattle.buckd.proofs.MakeCauses.{Adds, adds-none, adds-push, drain-adds, EndsSo}
 use Rattle.buckd.proofs.RunLemmas.{tell_scene}
@@ -29,7 +29,7 @@ use Rattle.buckd.proofs.RunLemmas.{tell_scene}
 ask-adds : (request : Asked) (scene : Scene) → Adds scene (ask request scene.point).point.history
 ask-adds request scene =
     adds-push scene scene.point.history
-    (entry_at (length scene.point.history) (event.Asked request) (serve (next scene.point) 0 nothing_aside request scene.point.book).reply)
+    (entry_at (length scene.point.history) (event.Asked request) (serve (next scene.point) 0 empty_context request scene.point.book).reply)
     (adds-none scene) tt
 
 -- what an item adds has its cause in the scene before it

@@ -2,7 +2,7 @@
 use Rattle.std.proofs.Common.{◌≡◌, ℕ, zero, suc, ◌+◌, ◌<◌, ◌≤◌, Bool, true, false, not, ◌||◌, ◌&&◌, List, [], ◌∷◌, count_by, map, Option, Some, None, cond, refl, sym, ap, ap₂, subst, ◌∙◌, Contains, find, arith}
 use Rattle.std.specs.List.{list_any}
 use Rattle.std.specs.Option.{is_some, option_and_then, option_or}
-use Rattle.std.proofs.lemmas.Bool.{and_from, both_ways, or_left, or_right}
+use Rattle.std.proofs.lemmas.Bool.{and_from, both_ways, or_left, or_parts, or_right}
 use Rattle.std.proofs.lemmas.List.Elements.{All-nil}
 use Rattle.std.proofs.lemmas.List.Folds.{list_any_none}
 use Rattle.std.proofs.lemmas.List.Sums.{sum_by-cons}
@@ -21,14 +21,13 @@ use Rattle.mat_model.specs.History.{may_end, next_number, point_of as model_poin
 use Rattle.mat_model.specs.Rows.{covers, is_at_path}
 use Rattle.mat_model.specs.Tickets.{answered_by, is_open, waits_for, with_answer}
 use Rattle.mat_model.specs.Work.{end_make}
-use Rattle.mat_model.specs.Yard.{Yard, first_make, first_task, make_of, task_of}
-use Rattle.mat_model.proofs.BooksKept.{idle_rules, opened_rules}
-use Rattle.mat_model.proofs.BooksLists.{any_contains, none_counted}
-use Rattle.mat_model.proofs.BooksWork.{gives_work}
-use Rattle.mat_model.proofs.Elements.{found_passes}
-use Rattle.mat_model.proofs.Idle.{no_wipe}
-use Rattle.mat_model.proofs.ListTests.{or_false_parts}
-use Rattle.mat_model.proofs.Makes.{apart_at, first_make_found, found_contains, make_of_parts}
+use Rattle.mat_model.specs.WorkState.{WorkState, first_make, first_task, make_of, task_of}
+use Rattle.model_laws.proofs.BooksKept.{idle_rules, opened_rules}
+use Rattle.model_laws.proofs.BooksLists.{any_contains, none_counted}
+use Rattle.model_laws.proofs.BooksWork.{gives_work}
+use Rattle.model_laws.proofs.Elements.{found_passes}
+use Rattle.model_laws.proofs.Idle.{no_wipe}
+use Rattle.model_laws.proofs.Makes.{apart_at, first_make_found, found_contains, make_of_parts}
 use Rattle.write_plan.specs.declared.act.Act.{Act}
 use Rattle.buckd.specs.declared.daemon.Daemon.{Daemon}
 use Rattle.buckd.specs.Daemon.{point_of, scene_of}
@@ -41,18 +40,18 @@ use Rattle.buckd.proofs.MadeLemmas.{ended-book}
 
 -- ---- counts
 
--- what is counted of a list is its first element, if that passes, and what is counted of the others
+-- what is risen of a list is its first element, if that passes, and what is risen of the others
 count_first : {A : Type 0} (p : A → Bool) (x : A) (xs : List A) → count_by p (x ∷ xs) ≡ cond (p x) 1 0 + count_by p xs
 count_first {A = A} p x xs = sum_by-cons (λ (y : A). cond (p y) 1 0) x xs
 
--- nothing is counted where nothing passes
+-- nothing is risen where nothing passes
 none-passes : {A : Type 0} (p : A → Bool) (xs : List A) → list_any p xs ≡ false → count_by p xs ≡ 0
 none-passes p [] none = refl
 none-passes p (x ∷ xs) none =
-    let parts = or_false_parts (p x) (list_any p xs) none in
+    let parts = or_parts (p x) (list_any p xs) none in
     count_first p x xs ∙ ap₂ (λ (b : Bool) (n : ℕ). cond b 1 0 + n) parts.0 (none-passes p xs parts.1)
 
--- something is counted where something passes
+-- something is risen where something passes
 one-passes : {A : Type 0} (p : A → Bool) (xs : List A) → list_any p xs ≡ true → 0 < count_by p xs
 one-passes p [] some = absurd cc
 one-passes p (x ∷ xs) some =
@@ -94,21 +93,21 @@ answered-count row number given (ticket ∷ tickets) =
 -- ---- the ticket that the first make is for
 
 -- the make that a ticket waits for is that of a row on which it is open
-task-waited : (yard : Yard) (rows : List Row) (ticket : Ticket) (path : List (List ℕ)) (stamp : ℕ) → task_of yard rows ticket ≡ Some (task.Make path stamp) →
+task-waited : (work : WorkState) (rows : List Row) (ticket : Ticket) (path : List (List ℕ)) (stamp : ℕ) → task_of work rows ticket ≡ Some (task.Make path stamp) →
     (row : Row) × Contains rows row × (row.path ≡ path) × (waits_for row ticket ≡ true)
-task-waited yard rows ticket path stamp is =
+task-waited work rows ticket path stamp is =
     elim (is_open ticket) as
-    (λ b. is_open ticket ≡ b → cond b (option_and_then (make_of yard rows) (find (covers ticket.asked) rows)) None ≡ Some (task.Make path stamp) →
+    (λ b. is_open ticket ≡ b → cond b (option_and_then (make_of work rows) (find (covers ticket.asked) rows)) None ≡ Some (task.Make path stamp) →
     (row : Row) × Contains rows row × (row.path ≡ path) × (waits_for row ticket ≡ true)) [
       | true ↦ λ lies of.
           elim (find (covers ticket.asked) rows) as
-          (λ o. find (covers ticket.asked) rows ≡ o → option_and_then (make_of yard rows) o ≡ Some (task.Make path stamp) →
+          (λ o. find (covers ticket.asked) rows ≡ o → option_and_then (make_of work rows) o ≡ Some (task.Make path stamp) →
           (row : Row) × Contains rows row × (row.path ≡ path) × (waits_for row ticket ≡ true)) [
             | None ↦ λ found made. absurd cc
             | Some row ↦ λ found made. (
               row,
               found_contains (covers ticket.asked) rows row found,
-              (make_of_parts yard rows row path stamp made).0,
+              (make_of_parts work rows row path stamp made).0,
               and_from (is_open ticket) (covers ticket.asked row) lies (found_passes (covers ticket.asked) rows row found),
             )
           ] refl of
@@ -116,19 +115,19 @@ task-waited yard rows ticket path stamp is =
     ] refl is
 
 -- the first make is that of a row on which a ticket is open
-first-waited : (yard : Yard) (rows : List Row) (tickets : List Ticket) (path : List (List ℕ)) (stamp : ℕ) →
-    first_make yard rows tickets ≡ Some (task.Make path stamp) →
+first-waited : (work : WorkState) (rows : List Row) (tickets : List Ticket) (path : List (List ℕ)) (stamp : ℕ) →
+    first_make work rows tickets ≡ Some (task.Make path stamp) →
     (row : Row) × Contains rows row × (row.path ≡ path) × (list_any (waits_for row) tickets ≡ true)
-first-waited yard rows [] path stamp is = absurd cc
-first-waited yard rows (ticket ∷ tickets) path stamp is =
-    elim (task_of yard rows ticket) as
-    (λ o. task_of yard rows ticket ≡ o → option_or o (first_make yard rows tickets) ≡ Some (task.Make path stamp) →
+first-waited work rows [] path stamp is = absurd cc
+first-waited work rows (ticket ∷ tickets) path stamp is =
+    elim (task_of work rows ticket) as
+    (λ o. task_of work rows ticket ≡ o → option_or o (first_make work rows tickets) ≡ Some (task.Make path stamp) →
     (row : Row) × Contains rows row × (row.path ≡ path) × (list_any (waits_for row) (ticket ∷ tickets) ≡ true)) [
       | None ↦ λ here more.
-          let (row, among, place, waits) = first-waited yard rows tickets path stamp more in
+          let (row, among, place, waits) = first-waited work rows tickets path stamp more in
           (row, among, place, or_right (waits_for row ticket) (list_any (waits_for row) tickets) waits)
       | Some one ↦ λ here more.
-          let (row, among, place, waits) = task-waited yard rows ticket path stamp (here ∙ more) in
+          let (row, among, place, waits) = task-waited work rows ticket path stamp (here ∙ more) in
           (row, among, place, or_left (waits_for row ticket) (list_any (waits_for row) tickets) waits)
     ] refl is
 

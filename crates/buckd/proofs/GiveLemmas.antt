@@ -1,4 +1,5 @@
 -- A part that was taken, carried out on, and given back.
+use Rattle.mat_path.proofs.SameNames.{is_prefix-refl}
 use Rattle.std.proofs.Common.{◌≡◌, ℕ, Bool, true, false, cond, not, ◌&&◌, ◌||◌, List, [], ◌∷◌, ◌++◌, drop, length, Option, Some, None, if◌then◌else◌, refl, ap, ap₂, ◌∙◌, sym, subst}
 use Rattle.std.proofs.Math.Seq.{drop-append_seam}
 use Rattle.std.specs.Result.{IfOk, OnOk}
@@ -7,10 +8,9 @@ use Rattle.std.specs.declared.result.Result.TheVariants.{Ok, Err}
 use Rattle.std.specs.Option.{option_map}
 use Rattle.mat_path.specs.Names.{is_prefix, same_names}
 use Rattle.mat_path.proofs.PathLemmas.{prefix-append}
-use Rattle.mat_tree.specs.Parts.{Holds, Part, bare, below, declared_by, replaced, without}
+use Rattle.mat_tree.specs.Parts.{HasTree, Part, bare, below, declared_by, replaced, without}
 use Rattle.mat_tree.specs.declared.flat.Flat.{Flat}
 use Rattle.region_port.specs.Calls.{Paths, nowhere, paths_below, paths_of_both, paths_outside}
-use Rattle.region_port.proofs.Names.{is_prefix-refl}
 use Rattle.write_plan.specs.declared.act.Act.{Act}
 use Rattle.write_plan.specs.declared.act.Act.TheVariants as act
 use Rattle.buckd.specs.Making.{Nodes, rough_after, rough_by, shown_by, with_nodes}
@@ -45,10 +45,10 @@ shown_given path inner content given nodes is shows =
     by q true = refl
     by q false = refl
 
-pub holds_given : (path : List (List ℕ)) (inner content given : Part) (tree : List Flat) → given ≡ replaced path inner (without path content) → Holds inner tree →
-    Holds (below path given) tree
+pub holds_given : (path : List (List ℕ)) (inner content given : Part) (tree : List Flat) → given ≡ replaced path inner (without path content) → HasTree inner tree →
+    HasTree (below path given) tree
 holds_given path inner content given tree is holds =
-    subst (λ (p : Part). Holds (below path p) tree) (sym is)
+    subst (λ (p : Part). HasTree (below path p) tree) (sym is)
     (λ rel.
     ap (λ (b : Bool). option_map declared_by (if b then inner (drop (length path) (path ++ rel)) else without path content (path ++ rel))) (prefix-append path rel)
     ∙ ap (λ (r : List (List ℕ)). option_map declared_by (inner r)) (drop-append_seam path rel)

@@ -1,4 +1,5 @@
 -- What keeps a daemon as it is between two lines, and what makes a line's answer the one of the definitions.
+use Rattle.model_laws.specs.Laws.{declared_alone}
 use Rattle.std.proofs.Common.{◌≡◌, ℕ, ◌+◌, ◌-◌, codes, Bool, true, false, List, [], ◌∷◌, ◌++◌, length, Some, None, cond, Result, Ok, Err, IfOk, OnOk, refl, sym, ap, ap₂, subst, ◌∙◌, append_assoc, append-nil, arith}
 use Rattle.std.specs.List.{list_any, list_all}
 use Rattle.std.specs.Ordering.{is_eq}
@@ -6,8 +7,8 @@ use Rattle.std.proofs.lemmas.List.{length_push}
 use Rattle.mat_path.specs.Names.{path_cmp}
 use Rattle.mat_path.specs.declared.memory.Memory.{Memory}
 use Rattle.mat_tree.specs.declared.flat.Flat.{Flat}
-use Rattle.mat_tree.specs.Trees.{IsTree}
-use Rattle.mat_tree.specs.Parts.{Holds, below}
+use Rattle.mat_tree.specs.Trees.{IsTree, ascends, is_placed}
+use Rattle.mat_tree.specs.Parts.{HasTree, below}
 use Rattle.mat_model.specs.declared.answers.Reply.{Reply}
 use Rattle.mat_model.specs.declared.book.Book.{Book}
 use Rattle.mat_model.specs.declared.book.Row.{Row}
@@ -16,20 +17,19 @@ use Rattle.mat_model.specs.declared.entries.Entry.{Entry}
 use Rattle.mat_model.specs.declared.entries.Event.TheVariants as event
 use Rattle.mat_model.specs.declared.requests.Asked.{Asked}
 use Rattle.mat_model.specs.declared.requests.Request.{Request}
-use Rattle.mat_model.specs.Declarations.{declare_tree, stands_at_path}
-use Rattle.mat_model.specs.Holding.{AreHeld}
+use Rattle.mat_model.specs.Declarations.{declare_tree}
+use Rattle.mat_model.specs.OnDisk.{AreOnDisk}
 use Rattle.mat_model.specs.Rows.{overlaps_row, put_row, used, used_row}
 use Rattle.mat_model.specs.Gate.{Served, is_live}
 use Rattle.mat_model.specs.Requests.{serve}
-use Rattle.mat_model.specs.Yard.{first_task}
-use Rattle.mat_model.proofs.Apart.{put_row-apart, apart-map}
-use Rattle.mat_model.proofs.Clear.{declare_clear, declared_alone}
-use Rattle.mat_model.proofs.Changes.{used-path, used-stands, used-tree}
+use Rattle.mat_model.specs.WorkState.{first_task}
+use Rattle.model_laws.proofs.Apart.{put_row-apart, apart-map}
+use Rattle.model_laws.proofs.Clear.{declare_clear}
+use Rattle.model_laws.proofs.Changes.{used-path, used-stands, used-tree}
 use Rattle.fetch_port.specs.declared.mem_store.MemStore.{MemStore}
 use Rattle.fetch_port.specs.Memory.{blobs_of}
 use Rattle.region_port.specs.declared.mem_disk.MemDisk.{MemDisk}
 use Rattle.region_port.specs.Disks.{disk_content, disk_rough}
-use Rattle.region_port.specs.Listing.{ascends, rels_of}
 use Rattle.script_lang.specs.declared.items.Item.TheVariants as item
 use Rattle.script_lang.specs.declared.items.Line.{Line}
 use Rattle.script_lang.specs.declared.told.Said.TheVariants as said
@@ -38,7 +38,7 @@ use Rattle.write_plan.specs.declared.method.Method.{Method}
 use Rattle.buckd.specs.declared.daemon.Daemon.{Daemon}
 use Rattle.buckd.specs.Daemon.{book_of, point_of, scene_of, Serves, Steps, Tells}
 use Rattle.buckd.specs.Making.{IsAtHand, is_write, shown_by}
-use Rattle.buckd.specs.Run.{Point, Scene, ask, asked_of, asked_scene, drain, entry_at, idle, is_held, is_not_yet, is_write_asked, is_write_entry, make_first, makes, next, nothing_aside, tell, tell_asked, tell_item, told_not_yet, told_since}
+use Rattle.buckd.specs.Run.{Point, Scene, ask, asked_of, asked_scene, drain, entry_at, idle, is_held, is_not_yet, is_write_asked, is_write_entry, make_first, makes, next, empty_context, tell, tell_asked, tell_item, told_not_yet, told_since}
 use Rattle.buckd.specs.Shows.{IsCovered}
 use Rattle.buckd.specs.Sound.{AreSupplied, AreSynced, kept_by, is_answered_before, IsKept, IsKeptWith, IsPast, IsReady, IsSound, IsSupplied, KeepsRows}
 use Rattle.buckd.specs.Legal.{IsLegalAt}
@@ -115,7 +115,7 @@ kept-used path moment old new kept rows methods disk live state history =
       idle = λ none. rw state (kept.idle (rw (← live) none));
       supplied = subst (λ (rs : List Row). AreSupplied new.history.items (kept_by new) rs) (sym rows)
           (rw (methods, history) (supplied-used old.history.items (kept_by old) path moment old.rows.items kept.supplied));
-      held = subst (λ (rs : List Row). AreHeld (disk_content new.disk) rs) (sym rows)
+      held = subst (λ (rs : List Row). AreOnDisk (disk_content new.disk) rs) (sym rows)
           (rw disk (held-map (disk_content old.disk) change (used-path path moment) (used-tree path moment) (used-stands path moment) old.rows.items kept.held));
       synced = subst (λ (rs : List Row). AreSynced (disk_rough new.disk) rs) (sym rows)
           (rw disk (synced-map (disk_rough old.disk) change (used-path path moment) (used-stands path moment) old.rows.items kept.synced));
@@ -127,7 +127,7 @@ kept-used path moment old new kept rows methods disk live state history =
 -- a daemon is kept where a row is declared that overlaps none, and its method is kept
 pub kept-declared : (old new : Daemon) (row : Row) (method : Method) (entry : Entry) → IsKept old →
     list_any (overlaps_row row.path) old.rows.items ≡ false → new.rows.items ≡ put_row row old.rows.items → row.stands ≡ false →
-    row.stamp ≡ length old.history.items → IsTree row.tree → list_all (stands_at_path row.path) row.tree ≡ true → IsAtHand method row.tree →
+    row.stamp ≡ length old.history.items → IsTree row.tree → list_all (is_placed row.path) row.tree ≡ true → IsAtHand method row.tree →
     ((q : List (List ℕ)) → is_eq (path_cmp row.path q) ≡ false → kept_by new q ≡ kept_by old q) → kept_by new row.path ≡ Some method →
     new.disk ≡ old.disk → new.live ≡ old.live → new.state ≡ old.state → is_write_entry entry ≡ is_write method →
     IsKeptWith (old.history.items ++ entry ∷ []) new
@@ -149,7 +149,7 @@ kept-declared old new row method entry kept clear rows lies stamp tree places by
       supplied = subst (λ (rs : List Row). AreSupplied history (kept_by new) rs) (sym rows)
           (supplied-put_row history (kept_by old) (kept_by new) row old.rows.items
           (supplied-more old.history.items entry (kept_by old) old.rows.items kept.supplied) clear keeps here);
-      held = subst (λ (rs : List Row). AreHeld (disk_content new.disk) rs) (sym rows)
+      held = subst (λ (rs : List Row). AreOnDisk (disk_content new.disk) rs) (sym rows)
           (rw disk (held-put_row (disk_content old.disk) row old.rows.items lies kept.held));
       synced = subst (λ (rs : List Row). AreSynced (disk_rough new.disk) rs) (sym rows)
           (rw disk (synced-put_row (disk_rough old.disk) row old.rows.items lies kept.synced));
@@ -179,12 +179,12 @@ scene-parts p q s t k l point store disk =
 
 -- a request that was served, and then entered, is a step of the run
 pub asked-steps : (request : Asked) (old mid new : Daemon) (given : Reply) (served : Served) →
-    served ≡ serve (next (point_of old)) 0 nothing_aside request (book_of old) → Serves served old mid given → book_of new ≡ book_of mid →
+    served ≡ serve (next (point_of old)) 0 empty_context request (book_of old) → Serves served old mid given → book_of new ≡ book_of mid →
     new.disk ≡ mid.disk → new.store ≡ mid.store →
     new.history.items ≡ mid.history.items ++ entry_at (length mid.history.items) (event.Asked request) given ∷ [] →
     Steps request old new given
 asked-steps request old mid new given served is serves book disk store history =
-    let reply : given ≡ (serve (next (point_of old)) 0 nothing_aside request (book_of old)).reply = serves.reply ∙ ap (λ (s : Served). s.reply) is in
+    let reply : given ≡ (serve (next (point_of old)) 0 empty_context request (book_of old)).reply = serves.reply ∙ ap (λ (s : Served). s.reply) is in
     record {
       reply = reply;
       scene = scene-parts (point_of new) (ask request (point_of old)).point new.store old.store new.disk old.disk
@@ -261,7 +261,7 @@ told-drain before after first last at is = record {
 
 -- a show's line is answered as the definitions say by a listing of the disk
 pub told-show : (path : List (List ℕ)) (d : Daemon) (nodes : List Flat) (first last : List ℕ) → IsKept d →
-    ascends (rels_of nodes) ≡ true → Holds (below path (disk_content d.disk)) nodes → last ≡ first ++ said_line (said.Shown nodes) →
+    ascends nodes ≡ true → HasTree (below path (disk_content d.disk)) nodes → last ≡ first ++ said_line (said.Shown nodes) →
     Tells (tell_item (item.Show path) (scene_of d)) d first last
 told-show path d nodes first last kept order holds is = record {
   text = is ∙ ap (λ (ns : List Flat). first ++ said_line (said.Shown ns))

@@ -1,4 +1,5 @@
 -- What a make leaves of a tree: nothing but its nodes.
+use Rattle.std.proofs.lemmas.Bool.{or_parts}
 use Rattle.std.proofs.Common.{◌≡◌, ℕ, Bool, true, false, List, [], ◌∷◌, ◌++◌, map, Some, None, cond, refl, ap, ◌∙◌}
 use Rattle.std.specs.List.{list_any}
 use Rattle.std.specs.Option.{is_some}
@@ -8,7 +9,6 @@ use Rattle.mat_tree.specs.declared.flat.Flat.{Flat}
 use Rattle.mat_tree.specs.declared.flat.What.{What}
 use Rattle.mat_tree.specs.declared.flat.What.TheVariants as what
 use Rattle.mat_tree.specs.Trees.{has_node, is_at}
-use Rattle.mat_model.proofs.ListTests.{or_false_parts}
 use Rattle.fetch_port.specs.Fetches.{Blobs}
 use Rattle.write_plan.specs.declared.act.Act.TheVariants as act
 use Rattle.write_plan.specs.declared.method.Method.{Method}
@@ -30,7 +30,7 @@ left_elsewhere : (blobs : Blobs) (way : Method) (tree : List Flat) (place : List
     left_by (acts_done blobs (map (act_of way false) tree ++ act.Sync ∷ [])) nodes place ≡ nodes place
 left_elsewhere blobs way [] place nodes off = refl
 left_elsewhere blobs way (node ∷ tree) place nodes off =
-    let parts = or_false_parts (is_at place node) (list_any (is_at place) tree) off in
+    let parts = or_parts (is_at place node) (list_any (is_at place) tree) off in
     elim (is_some (act_failure blobs (act_of way false node))) as
     (λ b. left_by (cond b [] (act_of way false node ∷ acts_done blobs (map (act_of way false) tree ++ act.Sync ∷ []))) nodes place ≡ nodes place) [
       | true ↦ refl

@@ -1,8 +1,10 @@
 -- A run's history is legal, and its book is the book of the history.
+use Rattle.mat_path.proofs.Elements.{contains_map}
+use Rattle.mat_path.proofs.Bools.{and_false_right}
 use Rattle.std.proofs.Common.{◌≡◌, ℕ, zero, suc, ◌+◌, ◌==◌, max, Bool, true, false, not, ◌||◌, ◌&&◌, List, [], ◌∷◌, ◌++◌, length, count_by, Option, Some, None, cond, refl, sym, ap, ap₂, subst, ◌∙◌, Contains, find, filter, arith}
 use Rattle.std.specs.List.{list_any, list_all}
 use Rattle.std.specs.Option.{option_map_or}
-use Rattle.std.proofs.lemmas.Bool.{and_from}
+use Rattle.std.proofs.lemmas.Bool.{and_from, and_parts}
 use Rattle.std.proofs.lemmas.List.Folds.{list_all-append}
 use Rattle.mat_digest.specs.Digests.{digest_of}
 use Rattle.mat_digest.specs.declared.digest.Digest.{Digest}
@@ -36,13 +38,12 @@ use Rattle.mat_model.specs.Requests.{at_moment, ensure_row, serve}
 use Rattle.mat_model.specs.Rows.{are_apart, cover, overlaps_row, put_row, used, used_row}
 use Rattle.mat_model.specs.Tickets.{is_open}
 use Rattle.mat_model.specs.Work.{end_make, finish, is_declared}
-use Rattle.mat_model.specs.Yard.{Debris, Job, Lent, Way, WayOf, Yard, add_debris, copied, ended, first_task, has_stamp, held, is_job, is_not_below, is_other_job, is_way_of, leaves_debris, lent_by, lent_for, made_yard, removed_rows, returned, store, way_declared, way_of, way_within, ways_after, writes_lying}
-use Rattle.mat_model.proofs.Clear.{declare_clear}
-use Rattle.mat_model.proofs.Idle.{has_one, idle_first, itself, no_wipe, none_removed}
-use Rattle.mat_model.proofs.LawLemmas.{contains_map, contains_put, history_apart, used-stamp}
-use Rattle.mat_model.proofs.LegalLemmas.{KeepsClock, after_all-push, count_by-all, each-push, finish-clock, history-all, serve-clock}
-use Rattle.mat_model.proofs.Makes.{first_make_found}
-use Rattle.mat_model.proofs.ListTests.{and_false_right, and_true_parts}
+use Rattle.mat_model.specs.WorkState.{Debris, Job, Lent, Way, WayOf, WorkState, add_debris, copied, ended, first_task, has_stamp, held, is_job, is_not_below, is_other_job, is_way_of, leaves_debris, lent_by, lent_for, made_work, removed_rows, returned, store, way_declared, way_of, way_within, ways_after, writes_lying}
+use Rattle.model_laws.proofs.Clear.{declare_clear}
+use Rattle.model_laws.proofs.Idle.{has_one, idle_first, itself, no_wipe, none_removed}
+use Rattle.model_laws.proofs.LawLemmas.{contains_put, history_apart, used-stamp}
+use Rattle.model_laws.proofs.LegalLemmas.{KeepsClock, after_all-push, count_by-all, each-push, finish-clock, history-all, serve-clock}
+use Rattle.model_laws.proofs.Makes.{first_make_found}
 use Rattle.script_lang.specs.declared.items.Item.{Item}
 use Rattle.script_lang.specs.declared.items.Item.TheVariants as item
 use Rattle.script_lang.specs.declared.items.Line.{Line}
@@ -50,7 +51,7 @@ use Rattle.script_lang.specs.declared.items.Line.TheVariants as line
 use Rattle.buckd.specs.Lines.{line_of}
 use Rattle.buckd.specs.Legal.{IsLawful, IsLegalAt, is_own, is_own_way, new_daemon}
 use Rattle.buckd.specs.Making.{act_failure, bytes_failure, fetch_failure, file_failure, given, or_made, outcome_of}
-use Rattle.buckd.specs.Run.{Point, Scene, acts_of, ask, asked_of, begin, drain, end_job, entered, entry_at, idle, is_not_yet, made, made_if, make_first, makes, next, nothing_aside, start, tell, tell_asked, tell_item, tell_lines, told_not_yet, worked}
+use Rattle.buckd.specs.Run.{Point, Scene, acts_of, ask, asked_of, begin, drain, end_job, entered, entry_at, idle, is_not_yet, made, made_if, make_first, makes, next, empty_context, start, tell, tell_asked, tell_item, tell_lines, told_not_yet, worked}
 
 -- what the history of a run has led to
 abbrev pub model : Point → ModelPoint
@@ -109,17 +110,17 @@ number_is point lawful =
 
 -- a request that is served is answered by the model as the run says
 asked-is : (asked : Request) (point : Point) (said : Reply) → IsLawful point → is_not_yet asked point.book ≡ false →
-    answer (model point) 0 (event.Asked (asked_of asked)) said ≡ serve (next point) 0 nothing_aside (asked_of asked) point.book
+    answer (model point) 0 (event.Asked (asked_of asked)) said ≡ serve (next point) 0 empty_context (asked_of asked) point.book
 asked-is (request.Enter command state) point said lawful now =
-    ap₂ (λ (n : ℕ) (b : Book). serve n 0 nothing_aside (asked.Enter command state) b) (number_is point lawful) (sym lawful.book)
+    ap₂ (λ (n : ℕ) (b : Book). serve n 0 empty_context (asked.Enter command state) b) (number_is point lawful) (sym lawful.book)
 asked-is (request.Write command path bytes) point said lawful now =
-    ap₂ (λ (n : ℕ) (b : Book). serve n 0 nothing_aside (asked.Write command path (file_sum (digest_of bytes) false)) b)
+    ap₂ (λ (n : ℕ) (b : Book). serve n 0 empty_context (asked.Write command path (file_sum (digest_of bytes) false)) b)
     (number_is point lawful) (sym lawful.book)
 asked-is (request.Ensure command path) point said lawful now =
-    ap₂ (λ (n : ℕ) (b : Book). serve n 0 nothing_aside (asked.Ensure command path) b) (number_is point lawful) (sym lawful.book)
+    ap₂ (λ (n : ℕ) (b : Book). serve n 0 empty_context (asked.Ensure command path) b) (number_is point lawful) (sym lawful.book)
 asked-is (request.Leave command) point said lawful now = absurd cc
 asked-is (request.Declare command path tree) point said lawful now =
-    ap₂ (λ (n : ℕ) (b : Book). serve n 0 nothing_aside (asked.Declare command path tree) b) (number_is point lawful) (sym lawful.book)
+    ap₂ (λ (n : ℕ) (b : Book). serve n 0 empty_context (asked.Declare command path tree) b) (number_is point lawful) (sym lawful.book)
 asked-is (request.Copy command path source) point said lawful now = absurd cc
 asked-is (request.Matches command path sum) point said lawful now = absurd cc
 asked-is (request.Has command path) point said lawful now = absurd cc
@@ -165,7 +166,7 @@ all-declared number command path tree book now =
     ] refl
 
 all-served : (asked : Request) (number : ℕ) (book : Book) → is_not_yet asked book ≡ false →
-    HasAll book.rows (serve number 0 nothing_aside (asked_of asked) book).book.rows
+    HasAll book.rows (serve number 0 empty_context (asked_of asked) book).book.rows
 all-served (request.Enter command state) number book now =
     all-either book.rows (is_live command (at_moment 0 book) || is_waiting command (at_moment 0 book)) _ _ (all-same book.rows)
     (all-either book.rows (admits state (at_moment 0 book)) _ _ (all-same book.rows) (all-same book.rows))
@@ -192,7 +193,7 @@ all-served request.Flush number book now = absurd cc
 own_way : (stamp : ℕ) (rows : List Row) (ways : List WayOf) → list_all is_own_way ways ≡ true → lent_by (way_of stamp ways) rows ≡ None
 own_way stamp rows [] own = refl
 own_way stamp rows (entry ∷ ways) own =
-    let parts = and_true_parts (is_own_way entry) (list_all is_own_way ways) own in
+    let parts = and_parts (is_own_way entry) (list_all is_own_way ways) own in
     elim (is_way_of stamp entry) as
     (λ b. lent_by (option_map_or way_within (cond b (Some entry) (find (is_way_of stamp) ways)) store) rows ≡ None) [
       | true ↦ alone entry.way parts.0
@@ -215,24 +216,24 @@ own_after request (reply.Kept stamp) rows ways declares own =
 own_after request _ rows ways declares own = own
 
 -- no debris comes of a request that leaves each row its stamp
-clean_debris : (by_clean : Bool) (yard : Yard) (rows left : List Row) → HasAll rows left →
-    add_debris by_clean (filter (leaves_debris yard) (removed_rows rows left)) yard.debris ≡ yard.debris
-clean_debris by_clean yard rows left has =
-    ap (λ (gone : List Row). add_debris by_clean (filter (leaves_debris yard) gone) yard.debris) (none_removed rows left has)
+clean_debris : (by_clean : Bool) (work : WorkState) (rows left : List Row) → HasAll rows left →
+    add_debris by_clean (filter (leaves_debris work) (removed_rows rows left)) work.debris ≡ work.debris
+clean_debris by_clean work rows left has =
+    ap (λ (gone : List Row). add_debris by_clean (filter (leaves_debris work) gone) work.debris) (none_removed rows left has)
 
 -- a request that is served leaves a run legal
 pub ask-at : (wanted : Request) (point : Point) → IsLegalAt point → is_not_yet wanted point.book ≡ false →
     IsLegalAt (ask (asked_of wanted) point).point
 ask-at wanted point at now =
-    let served : Served = serve (next point) 0 nothing_aside (asked_of wanted) point.book in
+    let served : Served = serve (next point) 0 empty_context (asked_of wanted) point.book in
     let is : answer (model point) 0 (event.Asked (asked_of wanted)) served.reply ≡ served = asked-is wanted point served.reply at.lawful now in
     let leads = led (event.Asked (asked_of wanted)) served point is in
-    let clock = serve-clock (next point) 0 nothing_aside (asked_of wanted) point.book in
+    let clock = serve-clock (next point) 0 empty_context (asked_of wanted) point.book in
     let lawful = lawful-entered (event.Asked (asked_of wanted)) served point at.lawful is tt
     (record { first = clock.first; now = clock.now ∙ latest point.book.now }) in
     let has : HasAll (model point).book.rows served.book.rows =
     subst (λ (b : Book). HasAll b.rows served.book.rows) at.lawful.book (all-served wanted (next point) point.book now) in
-    yards wanted now served leads lawful has
+    works wanted now served leads lawful has
   where
     latest : (n : ℕ) → max n 0 ≡ n
     latest n = omega arith
@@ -240,43 +241,43 @@ ask-at wanted point at now =
     kept : (request : Asked) (served : Served) → (let p : Point = (entered (event.Asked request) served point).point in
         model p ≡ stepped (model point) (added (event.Asked request) served point) served) →
         IsLawful (entered (event.Asked request) served point).point →
-        (stepped (model point) (added (event.Asked request) served point) served).yard.jobs ≡ (model point).yard.jobs →
-        (stepped (model point) (added (event.Asked request) served point) served).yard.debris ≡ (model point).yard.debris →
-        list_all is_own_way (stepped (model point) (added (event.Asked request) served point) served).yard.ways ≡ true →
+        (stepped (model point) (added (event.Asked request) served point) served).work.jobs ≡ (model point).work.jobs →
+        (stepped (model point) (added (event.Asked request) served point) served).work.debris ≡ (model point).work.debris →
+        list_all is_own_way (stepped (model point) (added (event.Asked request) served point) served).work.ways ≡ true →
         IsLegalAt (entered (event.Asked request) served point).point
     kept request served leads lawful jobs debris ways = record {
       lawful = lawful;
-      jobs = ap (λ (p : ModelPoint). p.yard.jobs) leads ∙ jobs ∙ at.jobs;
-      debris = ap (λ (p : ModelPoint). p.yard.debris) leads ∙ debris ∙ at.debris;
-      ways = ap (λ (p : ModelPoint). list_all is_own_way p.yard.ways) leads ∙ ways;
+      jobs = ap (λ (p : ModelPoint). p.work.jobs) leads ∙ jobs ∙ at.jobs;
+      debris = ap (λ (p : ModelPoint). p.work.debris) leads ∙ debris ∙ at.debris;
+      ways = ap (λ (p : ModelPoint). list_all is_own_way p.work.ways) leads ∙ ways;
     }
 
-    yards : (wanted : Request) → is_not_yet wanted point.book ≡ false → (served : Served) →
+    works : (wanted : Request) → is_not_yet wanted point.book ≡ false → (served : Served) →
         (let p : Point = (entered (event.Asked (asked_of wanted)) served point).point in
         model p ≡ stepped (model point) (added (event.Asked (asked_of wanted)) served point) served) →
         IsLawful (entered (event.Asked (asked_of wanted)) served point).point →
         HasAll (model point).book.rows served.book.rows → IsLegalAt (entered (event.Asked (asked_of wanted)) served point).point
-    yards (request.Enter command state) now served leads lawful has =
-        kept (asked.Enter command state) served leads lawful refl (clean_debris _ (model point).yard (model point).book.rows served.book.rows has)
-        (own_after (asked.Enter command state) served.reply (model point).book.rows (model point).yard.ways refl at.ways)
-    yards (request.Write command path bytes) now served leads lawful has =
+    works (request.Enter command state) now served leads lawful has =
+        kept (asked.Enter command state) served leads lawful refl (clean_debris _ (model point).work (model point).book.rows served.book.rows has)
+        (own_after (asked.Enter command state) served.reply (model point).book.rows (model point).work.ways refl at.ways)
+    works (request.Write command path bytes) now served leads lawful has =
         kept (asked.Write command path (file_sum (digest_of bytes) false)) served leads lawful refl
-        (clean_debris _ (model point).yard (model point).book.rows served.book.rows has)
-        (own_after (asked.Write command path (file_sum (digest_of bytes) false)) served.reply (model point).book.rows (model point).yard.ways refl at.ways)
-    yards (request.Ensure command path) now served leads lawful has =
-        kept (asked.Ensure command path) served leads lawful refl (clean_debris _ (model point).yard (model point).book.rows served.book.rows has)
-        (own_after (asked.Ensure command path) served.reply (model point).book.rows (model point).yard.ways refl at.ways)
-    yards (request.Leave command) now served leads lawful has = absurd cc
-    yards (request.Declare command path tree) now served leads lawful has =
+        (clean_debris _ (model point).work (model point).book.rows served.book.rows has)
+        (own_after (asked.Write command path (file_sum (digest_of bytes) false)) served.reply (model point).book.rows (model point).work.ways refl at.ways)
+    works (request.Ensure command path) now served leads lawful has =
+        kept (asked.Ensure command path) served leads lawful refl (clean_debris _ (model point).work (model point).book.rows served.book.rows has)
+        (own_after (asked.Ensure command path) served.reply (model point).book.rows (model point).work.ways refl at.ways)
+    works (request.Leave command) now served leads lawful has = absurd cc
+    works (request.Declare command path tree) now served leads lawful has =
         kept (asked.Declare command path tree) served leads lawful refl
-        (clean_debris _ (model point).yard (model point).book.rows served.book.rows has)
-        (own_after (asked.Declare command path tree) served.reply (model point).book.rows (model point).yard.ways refl at.ways)
-    yards (request.Copy command path source) now served leads lawful has = absurd cc
-    yards (request.Matches command path sum) now served leads lawful has = absurd cc
-    yards (request.Has command path) now served leads lawful has = absurd cc
-    yards (request.Invalidate command path) now served leads lawful has = absurd cc
-    yards (request.Clean cutoff mode) now served leads lawful has = absurd cc
-    yards request.Flush now served leads lawful has = absurd cc
+        (clean_debris _ (model point).work (model point).book.rows served.book.rows has)
+        (own_after (asked.Declare command path tree) served.reply (model point).book.rows (model point).work.ways refl at.ways)
+    works (request.Copy command path source) now served leads lawful has = absurd cc
+    works (request.Matches command path sum) now served leads lawful has = absurd cc
+    works (request.Has command path) now served leads lawful has = absurd cc
+    works (request.Invalidate command path) now served leads lawful has = absurd cc
+    works (request.Clean cutoff mode) now served leads lawful has = absurd cc
+    works request.Flush now served leads lawful has = absurd cc
 
 -- ---- makes
 
@@ -286,7 +287,7 @@ make_job point path stamp = record {
   number = (model point).book.first + length (model point).history;
   caller = 0;
   task = task.Make path stamp;
-  lent = lent_for (task.Make path stamp) (model point).book.rows (model point).yard.ways;
+  lent = lent_for (task.Make path stamp) (model point).book.rows (model point).work.ways;
 }
 
 -- a make ends recorded as nothing
@@ -296,18 +297,18 @@ nothing_recorded number path ends book None = refl
 nothing_recorded number path ends book (Some row) = refl
 
 -- the end of a make leaves the jobs, the debris and the ways
-record IsSameWork (yard other : Yard) : Type 0 where
-  jobs : other.jobs ≡ yard.jobs
-  debris : other.debris ≡ yard.debris
-  ways : other.ways ≡ yard.ways
+record IsSameWork (work other : WorkState) : Type 0 where
+  jobs : other.jobs ≡ work.jobs
+  debris : other.debris ≡ work.debris
+  ways : other.ways ≡ work.ways
 
-made_same : (path : List (List ℕ)) (ends : Outcome) (yard : Yard) → IsSameWork yard (made_yard path ends (reply.Fresh recorded.Nothing) yard)
-made_same path outcome.Made yard = record { jobs = refl; debris = refl; ways = refl }
-made_same path outcome.Wiped yard = record { jobs = refl; debris = refl; ways = refl }
-made_same path (outcome.Missing digest) yard = record { jobs = refl; debris = refl; ways = refl }
-made_same path (outcome.Corrupt wanted found) yard = record { jobs = refl; debris = refl; ways = refl }
-made_same path (outcome.Fault note) yard = record { jobs = refl; debris = refl; ways = refl }
-made_same path outcome.NoMemory yard = record { jobs = refl; debris = refl; ways = refl }
+made_same : (path : List (List ℕ)) (ends : Outcome) (work : WorkState) → IsSameWork work (made_work path ends (reply.Fresh recorded.Nothing) work)
+made_same path outcome.Made work = record { jobs = refl; debris = refl; ways = refl }
+made_same path outcome.Wiped work = record { jobs = refl; debris = refl; ways = refl }
+made_same path (outcome.Missing digest) work = record { jobs = refl; debris = refl; ways = refl }
+made_same path (outcome.Corrupt wanted found) work = record { jobs = refl; debris = refl; ways = refl }
+made_same path (outcome.Fault note) work = record { jobs = refl; debris = refl; ways = refl }
+made_same path outcome.NoMemory work = record { jobs = refl; debris = refl; ways = refl }
 
 -- the make that comes first leaves a run legal, however a make may end
 worked-at : (path : List (List ℕ)) (stamp : ℕ) (ends : Outcome) (point : Point) → IsLegalAt point → are_apart point.book.rows ≡ true →
@@ -318,22 +319,22 @@ worked-at path stamp ends point at apart is may =
     let first_served : Served = record { reply = reply.Started; book = point.book } in
     let begins : answer (model point) 0 (event.Begin make) reply.Started ≡ first_served =
     ap (λ (b : Book). let s : Served = record { reply = reply.Started; book = b } in s) (sym at.lawful.book) in
-    let order : first_task (model point).yard (model point).book ≡ Some make =
-    idle_first (model point).yard (model point).book at.jobs at.debris ∙ ap (λ (b : Book). first_task idle b) (sym at.lawful.book) ∙ is in
+    let order : first_task (model point).work (model point).book ≡ Some make =
+    idle_first (model point).work (model point).book at.jobs at.debris ∙ ap (λ (b : Book). first_task idle b) (sym at.lawful.book) ∙ is in
     let one : Point = (begin make point).point in
     let begun : IsLawful one = lawful-entered (event.Begin make) first_served point at.lawful begins order (record { first = refl; now = refl }) in
     let led_one : model one ≡ stepped (model point) (added (event.Begin make) first_served point) first_served =
     led (event.Begin make) first_served point begins in
     let job : Job = make_job point path stamp in
-    let jobs_one : (model one).yard.jobs ≡ job ∷ [] =
-    ap (λ (p : ModelPoint). p.yard.jobs) led_one ∙ ap (λ (js : List Job). js ++ job ∷ []) at.jobs in
-    let debris_one : (model one).yard.debris ≡ [] =
-    ap (λ (p : ModelPoint). p.yard.debris) led_one
+    let jobs_one : (model one).work.jobs ≡ job ∷ [] =
+    ap (λ (p : ModelPoint). p.work.jobs) led_one ∙ ap (λ (js : List Job). js ++ job ∷ []) at.jobs in
+    let debris_one : (model one).work.debris ≡ [] =
+    ap (λ (p : ModelPoint). p.work.debris) led_one
     ∙ ap (λ (ds : List Debris). filter (is_not_below path) ds) at.debris in
-    let ways_one : list_all is_own_way (model one).yard.ways ≡ true =
-    ap (λ (p : ModelPoint). list_all is_own_way p.yard.ways) led_one ∙ at.ways in
+    let ways_one : list_all is_own_way (model one).work.ways ≡ true =
+    ap (λ (p : ModelPoint). list_all is_own_way p.work.ways) led_one ∙ at.ways in
     let mine : (job.number == next point) ≡ true = ap (λ (n : ℕ). n == next point) (number_is point at.lawful) ∙ itself (next point) in
-    let runs : find (is_job (next point)) (model one).yard.jobs ≡ Some job =
+    let runs : find (is_job (next point)) (model one).work.jobs ≡ Some job =
     ap (λ (js : List Job). find (is_job (next point)) js) jobs_one ∙ ap (λ (b : Bool). cond b (Some job) None) mine in
     let served : Served = finish (next one) make ends recorded.Nothing one.book in
     let same_ends : finish ((model one).book.first + length (model one).history) make ends (recorded_as served.reply) (model one).book ≡ served =
@@ -343,28 +344,28 @@ worked-at path stamp ends point at apart is may =
     let done : answer (model one) 0 (event.Done (next point) ends) served.reply ≡ served =
     ap (λ (o : Option Job). answer_done (model one) ends served.reply o) runs ∙ same_ends in
     let two : Point = (end_job (next point) make ends one).point in
-    let lawful : IsLawful two = lawful-entered (event.Done (next point) ends) served one begun done (job, runs, refl, may)
+    let lawful : IsLawful two = lawful-entered (event.Done (next point) ends) served one begun done (record { job = job; runs = runs; owned = refl; ends = may })
     (finish-clock (next one) make ends recorded.Nothing one.book) in
     let led_two = led (event.Done (next point) ends) served one done in
     let found = first_make_found idle point.book.rows point.book.tickets path stamp apart is in
     let fresh : served.reply ≡ reply.Fresh recorded.Nothing =
     ap (λ (o : Option Row). (end_make (next one) path ends recorded.Nothing one.book o).reply) found.2 in
-    let after_all : Yard = ended (next point) ends served.reply served.book.rows (model one).yard
-    (find (is_job (next point)) (model one).yard.jobs) in
-    let left : Yard = record ((model one).yard) { jobs = filter (is_other_job (next point)) (model one).yard.jobs } in
-    let yard_two : after_all ≡ made_yard path ends (reply.Fresh recorded.Nothing) left =
-    ap (λ (o : Option Job). ended (next point) ends served.reply served.book.rows (model one).yard o) runs
-    ∙ ap (λ (o : Option Lent). returned o served.book.rows (made_yard path ends served.reply left))
-    (own_way stamp (model point).book.rows (model point).yard.ways at.ways)
-    ∙ ap (λ (r : Reply). made_yard path ends r left) fresh in
-    let same : IsSameWork left (made_yard path ends (reply.Fresh recorded.Nothing) left) = made_same path ends left in
+    let after_all : WorkState = ended (next point) ends served.reply served.book.rows (model one).work
+    (find (is_job (next point)) (model one).work.jobs) in
+    let left : WorkState = record ((model one).work) { jobs = filter (is_other_job (next point)) (model one).work.jobs } in
+    let work_two : after_all ≡ made_work path ends (reply.Fresh recorded.Nothing) left =
+    ap (λ (o : Option Job). ended (next point) ends served.reply served.book.rows (model one).work o) runs
+    ∙ ap (λ (o : Option Lent). returned o served.book.rows (made_work path ends served.reply left))
+    (own_way stamp (model point).book.rows (model point).work.ways at.ways)
+    ∙ ap (λ (r : Reply). made_work path ends r left) fresh in
+    let same : IsSameWork left (made_work path ends (reply.Fresh recorded.Nothing) left) = made_same path ends left in
     record {
       lawful = lawful;
-      jobs = ap (λ (p : ModelPoint). p.yard.jobs) led_two ∙ ap (λ (y : Yard). y.jobs) yard_two ∙ same.jobs
+      jobs = ap (λ (p : ModelPoint). p.work.jobs) led_two ∙ ap (λ (y : WorkState). y.jobs) work_two ∙ same.jobs
           ∙ ap (λ (js : List Job). filter (is_other_job (next point)) js) jobs_one
           ∙ ap (λ (b : Bool). cond (not b) (job ∷ []) []) mine;
-      debris = ap (λ (p : ModelPoint). p.yard.debris) led_two ∙ ap (λ (y : Yard). y.debris) yard_two ∙ same.debris ∙ debris_one;
-      ways = ap (λ (p : ModelPoint). list_all is_own_way p.yard.ways) led_two ∙ ap (λ (y : Yard). list_all is_own_way y.ways) yard_two
+      debris = ap (λ (p : ModelPoint). p.work.debris) led_two ∙ ap (λ (y : WorkState). y.debris) work_two ∙ same.debris ∙ debris_one;
+      ways = ap (λ (p : ModelPoint). list_all is_own_way p.work.ways) led_two ∙ ap (λ (y : WorkState). list_all is_own_way y.ways) work_two
           ∙ ap (λ (ws : List WayOf). list_all is_own_way ws) same.ways ∙ ways_one;
     }
 

@@ -1,17 +1,17 @@
 -- Two lists of nodes in strict order that have the same at each rel are the same.
+use Rattle.mat_path.proofs.SameNames.{same_names-eq, same_names-refl}
+use Rattle.std.specs.List.{list_all}
+use Rattle.mat_tree.proofs.Ascending.{after_head}
 use Rattle.std.proofs.Common.{◌≡◌, ℕ, Bool, true, false, List, [], ◌∷◌, Some, None, cond, Ordering, Less, Equal, Greater, refl, sym, ap, ap₂, subst, ◌∙◌, find}
 use Rattle.std.specs.Option.{option_map}
 use Rattle.std.specs.Ordering.{is_lt, ordering_reverse}
-use Rattle.std.proofs.lemmas.Bool.{both_ways}
+use Rattle.std.proofs.lemmas.Bool.{and_parts, both_ways}
 use Rattle.mat_path.specs.Names.{same_names, path_cmp}
-use Rattle.mat_path.proofs.PathLemmas.{same_names-eq, same_names-refl, path_cmp_total, path_cmp_equal}
+use Rattle.mat_path.proofs.PathLemmas.{path_cmp_total, path_cmp_equal}
 use Rattle.mat_tree.specs.declared.flat.Flat.{Flat}
 use Rattle.mat_tree.specs.declared.flat.What.{What}
-use Rattle.mat_tree.specs.Trees.{is_at, what_of, what_at}
+use Rattle.mat_tree.specs.Trees.{ascends, is_after, is_at, what_at, what_of}
 use Rattle.mat_model.specs.Rows.{comes_before}
-use Rattle.mat_model.proofs.ListTests.{and_true_parts}
-use Rattle.mat_model.proofs.Apart.{before-trans}
-use Rattle.region_port.specs.Listing.{comes_first, ascends, rels_of}
 
 -- what a list of nodes has at a rel: its first node, or what the others have
 pub what_at-cons : (node : Flat) (nodes : List Flat) (rel : List (List ℕ)) →
@@ -37,21 +37,16 @@ before_differ p q before =
       | false ↦ λ same. refl
     ] refl
 
--- what comes first of some comes first where one before it does
-first-trans : (p q : List (List ℕ)) (nodes : List Flat) → comes_before p q ≡ true → comes_first q (rels_of nodes) ≡ true →
-    comes_first p (rels_of nodes) ≡ true
-first-trans p q [] before first = refl
-first-trans p q (node ∷ nodes) before first = before-trans p q node.rel before first
-
 -- nodes in order have nothing at a rel that comes before the first
-later_none : (rel : List (List ℕ)) (nodes : List Flat) → comes_first rel (rels_of nodes) ≡ true → ascends (rels_of nodes) ≡ true →
+later_none : (rel : List (List ℕ)) (nodes : List Flat) → list_all (is_after rel) nodes ≡ true → ascends nodes ≡ true →
     what_at nodes rel ≡ None
 later_none rel [] first order = refl
 later_none rel (node ∷ nodes) first order =
-    let parts = and_true_parts (comes_first node.rel (rels_of nodes)) (ascends (rels_of nodes)) order in
+    let parts = and_parts (list_all (is_after node.rel) nodes) (ascends nodes) order in
+    let before = and_parts (is_after rel node) (list_all (is_after rel) nodes) first in
     what_at-cons node nodes rel
-    ∙ ap (λ (b : Bool). cond b (Some node.what) (what_at nodes rel)) (before_differ rel node.rel first)
-    ∙ later_none rel nodes (first-trans rel node.rel nodes first parts.0) parts.1
+    ∙ ap (λ (b : Bool). cond b (Some node.what) (what_at nodes rel)) (before_differ rel node.rel before.0)
+    ∙ later_none rel nodes before.1 parts.1
 
 -- nodes have the first one at its rel
 what_first : (node : Flat) (nodes : List Flat) → what_at (node ∷ nodes) node.rel ≡ Some node.what
@@ -60,7 +55,7 @@ what_first node nodes =
     ∙ ap (λ (b : Bool). cond b (Some node.what) (what_at nodes node.rel)) (same_names-refl node.rel)
 
 -- two lists of nodes in strict order that have the same at each rel are the same
-pub listed_once : (xs ys : List Flat) → ascends (rels_of xs) ≡ true → ascends (rels_of ys) ≡ true →
+pub listed_once : (xs ys : List Flat) → ascends xs ≡ true → ascends ys ≡ true →
     ((rel : List (List ℕ)) → what_at xs rel ≡ what_at ys rel) → xs ≡ ys
 listed_once [] [] first second same = refl
 listed_once [] (y ∷ ys) first second same =
@@ -68,12 +63,12 @@ listed_once [] (y ∷ ys) first second same =
 listed_once (x ∷ xs) [] first second same =
     let here : Some x.what ≡ None = sym (what_first x xs) ∙ same x.rel in cc
 listed_once (x ∷ xs) (y ∷ ys) first second same =
-    let firsts = and_true_parts (comes_first x.rel (rels_of xs)) (ascends (rels_of xs)) first in
-    let seconds = and_true_parts (comes_first y.rel (rels_of ys)) (ascends (rels_of ys)) second in
+    let firsts = and_parts (list_all (is_after x.rel) xs) (ascends xs) first in
+    let seconds = and_parts (list_all (is_after y.rel) ys) (ascends ys) second in
     elim (path_cmp x.rel y.rel) as (λ o. path_cmp x.rel y.rel ≡ o → (x ∷ xs) ≡ (y ∷ ys)) [
       | Less ↦ λ is.
           let here : Some x.what ≡ None =
-          sym (what_first x xs) ∙ same x.rel ∙ later_none x.rel (y ∷ ys) (ap is_lt is) second in cc
+          sym (what_first x xs) ∙ same x.rel ∙ later_none x.rel (y ∷ ys) (after_head x.rel y ys (ap is_lt is) seconds.0) second in cc
       | Equal ↦ λ is.
           let at : x.rel ≡ y.rel = path_cmp_equal x.rel y.rel is in
           let here : Some x.what ≡ Some y.what =
@@ -100,5 +95,5 @@ listed_once (x ∷ xs) (y ∷ ys) first second same =
       | Greater ↦ λ is.
           let turned : path_cmp y.rel x.rel ≡ Less = path_cmp_total.antisymm y.rel x.rel ∙ ap ordering_reverse is in
           let here : None ≡ Some y.what =
-          sym (later_none y.rel (x ∷ xs) (ap is_lt turned) first) ∙ same y.rel ∙ what_first y ys in cc
+          sym (later_none y.rel (x ∷ xs) (after_head y.rel x xs (ap is_lt turned) firsts.0) first) ∙ same y.rel ∙ what_first y ys in cc
     ] refl

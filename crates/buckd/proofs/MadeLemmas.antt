@@ -1,14 +1,14 @@
 -- A make leaves a daemon where the definitions say, and sound: the disk holds the row's tree if it stands, and no ticket was
 -- answered by an entry to come.
+use Rattle.mat_path.proofs.SameNames.{same_names-eq}
 use Rattle.std.proofs.Common.{◌≡◌, ℕ, ◌+◌, Bool, true, false, List, [], ◌∷◌, ◌++◌, length, ◌<◌, ◌==◌, ◌&&◌, ◌||◌, Option, Some, None, cond, refl, sym, ap, ap₂, subst, ◌∙◌, map, find, arith}
 use Rattle.std.specs.List.{list_all, list_any}
 use Rattle.std.specs.Option.{option_map_or}
-use Rattle.std.proofs.lemmas.Bool.{both_ways, eqb-true}
+use Rattle.std.proofs.lemmas.Bool.{and_parts, both_ways, eqb-true}
 use Rattle.std.proofs.lemmas.List.{length_push}
 use Rattle.mat_path.specs.Names.{is_prefix}
-use Rattle.mat_path.proofs.PathLemmas.{same_names-eq}
 use Rattle.mat_tree.specs.declared.flat.Flat.{Flat}
-use Rattle.mat_tree.specs.Parts.{Holds, below}
+use Rattle.mat_tree.specs.Parts.{HasTree, below}
 use Rattle.mat_tree.specs.Trees.{has_node}
 use Rattle.mat_model.specs.declared.answers.Answer.{Answer}
 use Rattle.mat_model.specs.declared.answers.Answer.TheVariants as answer
@@ -24,14 +24,13 @@ use Rattle.mat_model.specs.declared.entries.Outcome.{Outcome}
 use Rattle.mat_model.specs.declared.entries.Outcome.TheVariants as outcome
 use Rattle.mat_model.specs.declared.entries.Task.TheVariants as task
 use Rattle.mat_model.specs.Gate.{Served}
-use Rattle.mat_model.specs.Holding.{AreHeld}
+use Rattle.mat_model.specs.OnDisk.{AreOnDisk}
 use Rattle.mat_model.specs.Rows.{covers, is_at_path, standing_row}
 use Rattle.mat_model.specs.Tickets.{answered_by, answered_by_any, is_open, with_answer}
 use Rattle.mat_model.specs.Work.{end_make, finish, is_declared, make_ended}
-use Rattle.mat_model.proofs.Apart.{apart-map}
-use Rattle.mat_model.proofs.ListTests.{and_true_parts}
-use Rattle.mat_model.proofs.Changes.{standing-path, standing-stamp, standing-tree}
-use Rattle.mat_model.proofs.Elements.{found_passes}
+use Rattle.model_laws.proofs.Apart.{apart-map}
+use Rattle.model_laws.proofs.Changes.{standing-path, standing-stamp, standing-tree}
+use Rattle.model_laws.proofs.Elements.{found_passes}
 use Rattle.fetch_port.specs.Fetches.{Blobs}
 use Rattle.fetch_port.specs.declared.mem_store.MemStore.{MemStore}
 use Rattle.fetch_port.specs.Memory.{blobs_of}
@@ -149,7 +148,7 @@ made-point d0 d2 d3 path stamp ends given last begins same served end =
 stamp_of : (path : List (List ℕ)) (stamp : ℕ) (rows : List Row) (row : Row) → find (is_declared path stamp) rows ≡ Some row → row.stamp ≡ stamp
 stamp_of path stamp rows row found =
     eqb-true row.stamp stamp
-    (and_true_parts (is_at_path path row) (row.stamp == stamp) (found_passes (is_declared path stamp) rows row found)).1
+    (and_parts (is_at_path path row) (row.stamp == stamp) (found_passes (is_declared path stamp) rows row found)).1
 
 -- the acts of a make stay where an entry was added
 pub acts-begun : (d0 d1 : Daemon) (path : List (List ℕ)) (stamp : ℕ) (entry : Entry) (row : Row) → IsKept d0 →
@@ -271,10 +270,10 @@ made-kept d1 d2 d3 path stamp ends given row kept at found lies keeps free makes
     let tree : declared_tree path stamp d1.rows.items ≡ row.tree = tree_found path stamp d1.rows.items row found in
     let inner : Nodes = left_by (acts_done (blobs_of d1.store) (acts_of (task.Make path stamp) (point_of d1))) no_nodes in
     let place : row.path ≡ path = same_names-eq row.path path (found_passes (is_at_path path) d1.rows.items row at) in
-    let held : AreHeld (disk_content d2.disk) (map change d1.rows.items) =
+    let held : AreOnDisk (disk_content d2.disk) (map change d1.rows.items) =
     held-at (disk_content d1.disk) (disk_content d2.disk) path inner change d1.rows.items row is.others kept.apart at makes.shown kept.held
-    (λ stands. subst (λ (p : List (List ℕ)). Holds (below p (disk_content d2.disk)) (change row).tree) (sym (is.paths row ∙ place))
-    (subst (λ (t : List Flat). Holds (below path (disk_content d2.disk)) t) (tree ∙ sym (is.trees row)) (makes.holds (is.stands row lies stands)))) in
+    (λ stands. subst (λ (p : List (List ℕ)). HasTree (below p (disk_content d2.disk)) (change row).tree) (sym (is.paths row ∙ place))
+    (subst (λ (t : List Flat). HasTree (below path (disk_content d2.disk)) t) (tree ∙ sym (is.trees row)) (makes.holds (is.stands row lies stands)))) in
     let synced : AreSynced (disk_rough d2.disk) (map change d1.rows.items) =
     synced-at (disk_rough d1.disk) (disk_rough d2.disk) path change d1.rows.items row is.others kept.apart at makes.elsewhere kept.synced
     (λ stands there under. makes.synced (is.stands row lies stands) there
@@ -289,7 +288,7 @@ made-kept d1 d2 d3 path stamp ends given row kept at found lies keeps free makes
       idle = λ none. same.state ∙ keeps.state ∙ kept.idle (rw (← live) none);
       supplied = subst (λ (rs : List Row). AreSupplied d1.history.items (kept_by d3) rs) (sym rows)
           (rw methods (supplied-map d1.history.items (kept_by d1) change is.paths is.trees is.stamps d1.rows.items kept.supplied));
-      held = subst (λ (rs : List Row). AreHeld (disk_content d3.disk) rs) (sym rows) (rw same.disk held);
+      held = subst (λ (rs : List Row). AreOnDisk (disk_content d3.disk) rs) (sym rows) (rw same.disk held);
       synced = subst (λ (rs : List Row). AreSynced (disk_rough d3.disk) rs) (sym rows) (rw same.disk synced);
       covered = subst (λ (rs : List Row). IsCovered (disk_content d3.disk) rs) (sym rows) (rw same.disk covered);
       free = rw same.disk free;

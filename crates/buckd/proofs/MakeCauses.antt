@@ -27,10 +27,10 @@ use Rattle.mat_model.specs.Gate.{Served}
 use Rattle.mat_model.specs.Rows.{standing_row}
 use Rattle.mat_model.specs.Tickets.{is_open}
 use Rattle.mat_model.specs.Work.{end_make, finish, is_declared}
-use Rattle.mat_model.specs.Yard.{first_task}
-use Rattle.mat_model.proofs.Idle.{no_wipe}
-use Rattle.mat_model.proofs.LegalLemmas.{finish-clock}
-use Rattle.mat_model.proofs.Changes.{standing-path, standing-stamp, standing-tree}
+use Rattle.mat_model.specs.WorkState.{first_task}
+use Rattle.model_laws.proofs.Idle.{no_wipe}
+use Rattle.model_laws.proofs.LegalLemmas.{finish-clock}
+use Rattle.model_laws.proofs.Changes.{standing-path, standing-stamp, standing-tree}
 use Rattle.fetch_port.specs.Fetches.{Blobs}
 use Rattle.write_plan.specs.Plans.{act_of, act_what, supply_of}
 use Rattle.write_plan.specs.declared.act.Act.TheVariants as act

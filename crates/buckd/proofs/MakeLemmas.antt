@@ -1,4 +1,7 @@
 -- The plan of a make: its acts are as the definition has them, they may be carried out, and they put the right bytes.
+use Rattle.mat_path.proofs.SameNames.{same_name-eq, same_name-refl}
+use Rattle.std.specs.Cmp.{first_so, second_so}
+use Rattle.std.proofs.lemmas.Bool.{and_from}
 use Rattle.std.proofs.Common.{◌≡◌, ℕ, ◌==◌, Bool, true, false, cond, not, ◌&&◌, List, [], ◌∷◌, ◌++◌, map, Option, Some, None, if◌then◌else◌, refl, ap, ap₂, ◌∙◌, sym, subst, arith}
 use Rattle.std.proofs.lemmas.Bool.Decides.{nat_tests}
 use Rattle.std.specs.List.{list_all}
@@ -6,16 +9,14 @@ use Rattle.std.specs.Option.{is_some, option_map}
 use Rattle.mat_digest.specs.Digests.{digest_of}
 use Rattle.mat_digest.specs.declared.digest.Digest.{Digest}
 use Rattle.mat_path.specs.Names.{same_name, same_names}
-use Rattle.mat_model.specs.Declarations.{stands_at_path}
 use Rattle.mat_model.specs.declared.entries.Outcome.{Outcome}
 use Rattle.mat_model.specs.declared.entries.Outcome.TheVariants as outcome
-use Rattle.mat_tree.specs.Parts.{Holds, Node, Part, declared_by, file, folder, link}
-use Rattle.mat_tree.specs.Trees.{same_digest}
+use Rattle.mat_tree.specs.Parts.{HasTree, Node, Part, declared_by, file, folder, link}
+use Rattle.mat_tree.specs.Trees.{is_placed, same_digest}
 use Rattle.mat_tree.specs.declared.flat.Flat.{Flat}
 use Rattle.mat_tree.specs.declared.flat.What.{What}
 use Rattle.mat_tree.specs.declared.flat.What.TheVariants as what
-use Rattle.mat_tree.proofs.Joins.{and_both, and_left, and_right, all_join}
-use Rattle.mat_tree.proofs.Paths.{same_name_refl, same_name_true}
+use Rattle.mat_tree.proofs.Joins.{all_join}
 use Rattle.fetch_port.specs.Fetches.{Blobs}
 use Rattle.write_plan.specs.Carried.{AreRight, Bytes, IsRightFor, carry, carry_one}
 use Rattle.write_plan.specs.Plans.{act_of, act_what, is_empty, plan_of, supply_of}
@@ -30,7 +31,7 @@ use Rattle.buckd.specs.Making.{IsAtHand, act_failure, acts_done, bytes_or_none, 
 -- ---- digests
 
 pub same_digest-refl : (a : Digest) → same_digest a a ≡ true
-same_digest-refl a = and_both (same_name a.hash a.hash) (a.size == a.size) (same_name_refl a.hash) (same_size a.size)
+same_digest-refl a = and_from (same_name a.hash a.hash) (a.size == a.size) (same_name-refl a.hash) (same_size a.size)
   where
     same_size : (n : ℕ) → (n == n) ≡ true
     same_size n = grind (arith, nat_tests)
@@ -38,8 +39,8 @@ same_digest-refl a = and_both (same_name a.hash a.hash) (a.size == a.size) (same
 pub same_digest_true : (a b : Digest) → same_digest a b ≡ true → a ≡ b
 same_digest_true a b e =
     ap₂ (λ (h : List ℕ) (n : ℕ). let d : Digest = record { hash = h; size = n } in d)
-    (same_name_true a.hash b.hash (and_left (same_name a.hash b.hash) (a.size == b.size) e))
-    (same_size a.size b.size (and_right (same_name a.hash b.hash) (a.size == b.size) e))
+    (same_name-eq a.hash b.hash (first_so (same_name a.hash b.hash) (a.size == b.size) e))
+    (same_size a.size b.size (second_so (same_name a.hash b.hash) (a.size == b.size) e))
   where
     same_size : (m n : ℕ) → (m == n) ≡ true → m ≡ n
     same_size m n f = grind (arith, nat_tests)
@@ -62,32 +63,32 @@ plan_is method.Fetch tree hand = refl
 plan_is (method.Copy source rest stamp origin) tree hand = absurd hand
 
 -- each act stands at a path
-pub plan_fits : (path : List (List ℕ)) (way : Method) (tree : List Flat) → list_all (stands_at_path path) tree ≡ true → list_all (fits path) (plan_of tree way false) ≡ true
+pub plan_fits : (path : List (List ℕ)) (way : Method) (tree : List Flat) → list_all (is_placed path) tree ≡ true → list_all (fits path) (plan_of tree way false) ≡ true
 plan_fits path way tree all = all_join (fits path) (map (act_of way false) tree) (act.Sync ∷ []) (each tree all) refl
   where
-    one : (node : Flat) (w : What) → stands_at_path path node ≡ true → fits path (act_what way false node.rel w) ≡ true
+    one : (node : Flat) (w : What) → is_placed path node ≡ true → fits path (act_what way false node.rel w) ≡ true
     one node (what.File digest exec) e = e
     one node what.Dir e = e
     one node (what.Link target) e = e
 
-    each : (nodes : List Flat) → list_all (stands_at_path path) nodes ≡ true → list_all (fits path) (map (act_of way false) nodes) ≡ true
+    each : (nodes : List Flat) → list_all (is_placed path) nodes ≡ true → list_all (fits path) (map (act_of way false) nodes) ≡ true
     each [] e = refl
     each (node ∷ nodes) e =
-        and_both (fits path (act_of way false node)) (list_all (fits path) (map (act_of way false) nodes))
-        (one node node.what (and_left (stands_at_path path node) (list_all (stands_at_path path) nodes) e))
-        (each nodes (and_right (stands_at_path path node) (list_all (stands_at_path path) nodes) e))
+        and_from (fits path (act_of way false node)) (list_all (fits path) (map (act_of way false) nodes))
+        (one node node.what (first_so (is_placed path node) (list_all (is_placed path) nodes) e))
+        (each nodes (second_so (is_placed path node) (list_all (is_placed path) nodes) e))
 
 -- each file's bytes come from where the row has them
 pub plan_supplied : (way : Method) (tree : List Flat) → IsAtHand way tree → list_all (is_supplied way) (plan_of tree way false) ≡ true
 plan_supplied (method.Write bytes) tree hand =
     subst (λ (t : List Flat). list_all (is_supplied (method.Write bytes)) (plan_of t (method.Write bytes) false) ≡ true) (sym hand)
-    (and_both (is_supply (method.Write bytes) (digest_of bytes) (supply_of (method.Write bytes) false [] (digest_of bytes))) true
+    (and_from (is_supply (method.Write bytes) (digest_of bytes) (supply_of (method.Write bytes) false [] (digest_of bytes))) true
     (by (digest_of bytes) refl (is_empty (digest_of bytes)) refl) refl)
   where
     by : (digest : Digest) → digest_of bytes ≡ digest → (b : Bool) → is_empty digest ≡ b → is_supply (method.Write bytes) digest (cond b supply.Empty supply.Held) ≡ true
     by digest same true e = e
     by digest same false e =
-        and_both (not (is_empty digest)) (same_digest (digest_of bytes) digest) (ap not e)
+        and_from (not (is_empty digest)) (same_digest (digest_of bytes) digest) (ap not e)
         (ap (λ (d : Digest). same_digest d digest) same ∙ same_digest-refl digest)
 plan_supplied method.Fetch tree hand = all_join (is_supplied method.Fetch) (map (act_of method.Fetch false) tree) (act.Sync ∷ []) (each tree) refl
   where
@@ -103,7 +104,7 @@ plan_supplied method.Fetch tree hand = all_join (is_supplied method.Fetch) (map 
     each : (nodes : List Flat) → list_all (is_supplied method.Fetch) (map (act_of method.Fetch false) nodes) ≡ true
     each [] = refl
     each (node ∷ nodes) =
-        and_both (is_supplied method.Fetch (act_of method.Fetch false node)) (list_all (is_supplied method.Fetch) (map (act_of method.Fetch false) nodes))
+        and_from (is_supplied method.Fetch (act_of method.Fetch false node)) (list_all (is_supplied method.Fetch) (map (act_of method.Fetch false) nodes))
         (one node.rel node.what) (each nodes)
 plan_supplied (method.Copy source rest stamp origin) tree hand = absurd hand
 
@@ -116,19 +117,19 @@ right_for blobs way digest supply.Empty has fine =
     ap (λ (b : Bool). digest_of (if b then [] else if is_write way then held_bytes way else bytes_or_none (given blobs digest))) has
     ∙ sym (same_digest_true digest (digest_of []) has)
 right_for blobs way digest supply.Held has fine =
-    let two : (is_write way && not (is_empty digest)) ≡ true = and_left (is_write way && not (is_empty digest)) (same_digest (digest_of (held_bytes way)) digest) has in
+    let two : (is_write way && not (is_empty digest)) ≡ true = first_so (is_write way && not (is_empty digest)) (same_digest (digest_of (held_bytes way)) digest) has in
     ap (λ (b : Bool). digest_of (if b then [] else if is_write way then held_bytes way else bytes_or_none (given blobs digest)))
-    (not_true (is_empty digest) (and_right (is_write way) (not (is_empty digest)) two))
-    ∙ ap (λ (b : Bool). digest_of (if b then held_bytes way else bytes_or_none (given blobs digest))) (and_left (is_write way) (not (is_empty digest)) two)
-    ∙ same_digest_true (digest_of (held_bytes way)) digest (and_right (is_write way && not (is_empty digest)) (same_digest (digest_of (held_bytes way)) digest) has)
+    (not_true (is_empty digest) (second_so (is_write way) (not (is_empty digest)) two))
+    ∙ ap (λ (b : Bool). digest_of (if b then held_bytes way else bytes_or_none (given blobs digest))) (first_so (is_write way) (not (is_empty digest)) two)
+    ∙ same_digest_true (digest_of (held_bytes way)) digest (second_so (is_write way && not (is_empty digest)) (same_digest (digest_of (held_bytes way)) digest) has)
   where
     not_true : (b : Bool) → not b ≡ true → b ≡ false
     not_true true e = cc
     not_true false e = refl
 right_for blobs way digest supply.Store has fine =
     ap (λ (b : Bool). digest_of (if b then [] else if is_write way then held_bytes way else bytes_or_none (given blobs digest)))
-    (not_true (is_empty digest) (and_right (is_fetch way) (not (is_empty digest)) has))
-    ∙ ap (λ (b : Bool). digest_of (if b then held_bytes way else bytes_or_none (given blobs digest))) (not_written way (and_left (is_fetch way) (not (is_empty digest)) has))
+    (not_true (is_empty digest) (second_so (is_fetch way) (not (is_empty digest)) has))
+    ∙ ap (λ (b : Bool). digest_of (if b then held_bytes way else bytes_or_none (given blobs digest))) (not_written way (first_so (is_fetch way) (not (is_empty digest)) has))
     ∙ by (given blobs digest) fine
   where
     not_true : (b : Bool) → not b ≡ true → b ≡ false
@@ -178,7 +179,7 @@ pub shown_all : (blobs : Blobs) (way : Method) (acts : List Act) (part : Part) �
 shown_all blobs way [] part all = refl
 shown_all blobs way (one ∷ acts) part all =
     by (act_failure blobs one) refl
-    (shown_all blobs way acts (carry_one (supplied blobs way) one part) (and_right (is_supplied way one) (list_all (is_supplied way) acts) all))
+    (shown_all blobs way acts (carry_one (supplied blobs way) one part) (second_so (is_supplied way one) (list_all (is_supplied way) acts) all))
   where
     by : (o : Option Outcome) → act_failure blobs one ≡ o →
         shown_by (carry (supplied blobs way) (acts_done blobs acts) (carry_one (supplied blobs way) one part))
@@ -186,7 +187,7 @@ shown_all blobs way (one ∷ acts) part all =
         shown_by (carry (supplied blobs way) (if is_some o then [] else one ∷ acts_done blobs acts) part)
         ≡ left_by (if is_some o then [] else one ∷ acts_done blobs acts) (shown_by part)
     by None e rest =
-        rest ∙ ap (left_by (acts_done blobs acts)) (shown_one blobs way one part (and_left (is_supplied way one) (list_all (is_supplied way) acts) all) e)
+        rest ∙ ap (left_by (acts_done blobs acts)) (shown_one blobs way one part (first_so (is_supplied way one) (list_all (is_supplied way) acts) all) e)
     by (Some failure) e rest = refl
 
 -- ---- what is made
@@ -235,9 +236,9 @@ made_right blobs way [] last all made = tt
 made_right blobs way (node ∷ nodes) last all made =
     let first : IsFine blobs (act_of way false node) (map (act_of way false) nodes ++ last) =
     made_first blobs (act_of way false node) (map (act_of way false) nodes ++ last) made in (
-      one node.what (and_left (is_supplied way (act_of way false node)) (list_all (is_supplied way) (map (act_of way false) nodes ++ last)) all) first.0,
+      one node.what (first_so (is_supplied way (act_of way false node)) (list_all (is_supplied way) (map (act_of way false) nodes ++ last)) all) first.0,
       made_right blobs way nodes last
-          (and_right (is_supplied way (act_of way false node)) (list_all (is_supplied way) (map (act_of way false) nodes ++ last)) all) first.1,
+          (second_so (is_supplied way (act_of way false node)) (list_all (is_supplied way) (map (act_of way false) nodes ++ last)) all) first.1,
     )
   where
     one : (w : What) → is_supplied way (act_what way false node.rel w) ≡ true → act_failure blobs (act_what way false node.rel w) ≡ None → IsRightFor (supplied blobs way) w
@@ -256,12 +257,12 @@ shown_made blobs way tree acts start inner hand is carried =
     ∙ shown_all blobs way (plan_of tree way false) start (plan_supplied way tree hand)
     ∙ ap (λ (l : List Act). left_by (acts_done blobs l) (shown_by start)) (plan_is way tree hand)
 
--- a part where all was made holds the tree
+-- a part where all was made has the tree
 pub holds_made : (blobs : Blobs) (way : Method) (tree : List Flat) (acts items : List Act) (start inner : Part) (ended : Outcome) → IsAtHand way tree →
-    acts ≡ items → items ≡ plan_of tree way false → ((bytes : Bytes) (part : Part) → AreRight bytes tree → Holds (carry bytes items part) tree) →
-    inner ≡ carry (supplied blobs way) (acts_done blobs acts) start → ended ≡ outcome_of blobs acts → ended ≡ outcome.Made → Holds inner tree
+    acts ≡ items → items ≡ plan_of tree way false → ((bytes : Bytes) (part : Part) → AreRight bytes tree → HasTree (carry bytes items part) tree) →
+    inner ≡ carry (supplied blobs way) (acts_done blobs acts) start → ended ≡ outcome_of blobs acts → ended ≡ outcome.Made → HasTree inner tree
 holds_made blobs way tree acts items start inner ended hand same is holds carried ends made =
-    subst (λ (p : Part). Holds p tree) (sym (carried ∙ ap (λ (l : List Act). carry (supplied blobs way) l start) (made_done blobs acts all ∙ same)))
+    subst (λ (p : Part). HasTree p tree) (sym (carried ∙ ap (λ (l : List Act). carry (supplied blobs way) l start) (made_done blobs acts all ∙ same)))
     (holds (supplied blobs way) start
     (made_right blobs way tree (act.Sync ∷ []) (plan_supplied way tree hand) (ap (outcome_of blobs) (sym (same ∙ is)) ∙ all)))
   where

@@ -2,14 +2,13 @@
 use Rattle.std.proofs.Common.{◌≡◌, ℕ, ◌+◌, ◌==◌, ◌≤◌, Bool, true, false, List, [], ◌∷◌, ◌++◌, Option, Some, None, cond, nat_lt, refl, ap, ap₂, map, arith}
 use Rattle.std.specs.List.{list_all, flat_map}
 use Rattle.std.specs.Option.{option_map_or}
-use Rattle.std.proofs.lemmas.Bool.{and_from}
+use Rattle.std.proofs.lemmas.Bool.{and_from, and_parts}
 use Rattle.std.proofs.lemmas.Bool.Decides.{nat_tests}
 use Rattle.mat_model.specs.declared.answers.Answer.{Answer}
 use Rattle.mat_model.specs.declared.book.Given.{Given}
 use Rattle.mat_model.specs.declared.book.Row.{Row}
 use Rattle.mat_model.specs.declared.book.Ticket.{Ticket}
 use Rattle.mat_model.specs.Tickets.{answered_by, waits_for, with_answer}
-use Rattle.mat_model.proofs.ListTests.{and_true_parts}
 use Rattle.buckd.specs.Sound.{is_before, is_answered_before}
 use Rattle.buckd.specs.Texts.{answer_line, given_line, ticket_line, answer_lines}
 
@@ -47,7 +46,7 @@ pub past-lines : (number : ℕ) (tickets : List Ticket) → list_all (is_answere
     flat_map (ticket_line number) tickets ≡ []
 past-lines number [] past = refl
 past-lines number (ticket ∷ tickets) past =
-    let parts = and_true_parts (is_answered_before number ticket) (list_all (is_answered_before number) tickets) past in
+    let parts = and_parts (is_answered_before number ticket) (list_all (is_answered_before number) tickets) past in
     ap₂ (λ (s t : List ℕ). s ++ t) (ticket_line-past number ticket parts.0) (past-lines number tickets parts.1)
 
 -- the lines of one entry are none where no ticket was answered at it
@@ -60,7 +59,7 @@ pub past-later : (number later : ℕ) (tickets : List Ticket) → number ≤ lat
     list_all (is_answered_before later) tickets ≡ true
 past-later number later [] more past = refl
 past-later number later (ticket ∷ tickets) more past =
-    let parts = and_true_parts (is_answered_before number ticket) (list_all (is_answered_before number) tickets) past in
+    let parts = and_parts (is_answered_before number ticket) (list_all (is_answered_before number) tickets) past in
     and_from (is_answered_before later ticket) (list_all (is_answered_before later) tickets)
     (given-later number later more ticket.answered parts.0) (past-later number later tickets more parts.1)
 
@@ -75,7 +74,7 @@ pub past-push : (number : ℕ) (tickets : List Ticket) (ticket : Ticket) → lis
 past-push number [] ticket past none =
     and_from (is_answered_before number ticket) true (ap (λ (o : Option Given). option_map_or (is_before number) o true) none) refl
 past-push number (first ∷ tickets) ticket past none =
-    let parts = and_true_parts (is_answered_before number first) (list_all (is_answered_before number) tickets) past in
+    let parts = and_parts (is_answered_before number first) (list_all (is_answered_before number) tickets) past in
     and_from (is_answered_before number first) (list_all (is_answered_before number) (tickets ++ ticket ∷ []))
     parts.0 (past-push number tickets ticket parts.1 none)
 
@@ -93,7 +92,7 @@ pub past-answered : (number : ℕ) (tickets : List Ticket) (row : Row) (given : 
     list_all (is_answered_before (number + 1)) (map (answered_by row number given) tickets) ≡ true
 past-answered number [] row given past = refl
 past-answered number (ticket ∷ tickets) row given past =
-    let parts = and_true_parts (is_answered_before number ticket) (list_all (is_answered_before number) tickets) past in
+    let parts = and_parts (is_answered_before number ticket) (list_all (is_answered_before number) tickets) past in
     and_from (is_answered_before (number + 1) (answered_by row number given ticket))
     (list_all (is_answered_before (number + 1)) (map (answered_by row number given) tickets))
     (past-answered_one number row given ticket parts.0) (past-answered number tickets row given parts.1)

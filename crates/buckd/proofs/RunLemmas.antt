@@ -4,7 +4,7 @@ use Rattle.std.proofs.lemmas.Bool.{cond-true, ltb-true, ltb-false, lt-ltb}
 use Rattle.std.proofs.lemmas.List.{append-nil, take_at, take-append-le}
 use Rattle.std.proofs.Math.Seq.{take-append-add}
 use Rattle.mat_io.specs.Answers.{put_failed}
-use Rattle.mat_io.specs.Causes.{HasCause, counted}
+use Rattle.mat_io.specs.Causes.{HasCause, risen}
 use Rattle.mat_io.specs.declared.answer.Put.{Put}
 use Rattle.mat_io.specs.declared.answer.Put.TheVariants as put
 use Rattle.mat_io.specs.Streams.{Grows, GrowsInPart}
@@ -419,7 +419,7 @@ carried_over piece rest line next out mid now old between new answer over carrie
 pub cause_after : (before mid now : ℕ) (failed : Bool) → before ≤ mid → HasCause mid now failed → HasCause before now failed
 cause_after before mid now failed le cause = record {
   later = omega (arith, cause.later);
-  rose = λ yes. let rose : counted mid ≤ now = cause.rose yes in omega arith;
+  rose = λ yes. let rose : risen mid ≤ now = cause.rose yes in omega arith;
 }
 
 pub no_cause : (before now : ℕ) → before ≤ now → HasCause before now false

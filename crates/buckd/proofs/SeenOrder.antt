@@ -3,17 +3,15 @@ use Rattle.std.proofs.Common.{◌≡◌, ℕ, Bool, true, false, List, [], ◌�
 use Rattle.std.specs.List.{list_all, flat_map, filter_map, cons_option}
 use Rattle.std.specs.Option.{option_map}
 use Rattle.std.specs.Ordering.{is_lt}
-use Rattle.std.proofs.lemmas.Bool.{and_from}
+use Rattle.std.proofs.lemmas.Bool.{and_from, and_parts}
 use Rattle.std.proofs.lemmas.List.Folds.{list_all-append}
 use Rattle.mat_path.specs.Names.{is_prefix, path_cmp}
 use Rattle.mat_path.proofs.PathLemmas.{prefix_split, path_cmp-append, before_apart}
 use Rattle.mat_tree.specs.declared.flat.Flat.{Flat}
-use Rattle.mat_tree.specs.Trees.{is_after, ascends as is_tree_order}
+use Rattle.mat_tree.specs.Trees.{ascends, is_after}
 use Rattle.mat_model.specs.declared.book.Row.{Row}
 use Rattle.mat_model.specs.Rows.{are_apart, at_rel, is_apart, seen_node, seen_of}
-use Rattle.mat_model.proofs.ListTests.{and_true_parts}
-use Rattle.mat_model.proofs.Apart.{apart_parts}
-use Rattle.region_port.specs.Listing.{ascends, rels_of}
+use Rattle.model_laws.proofs.Apart.{apart_parts}
 use Rattle.buckd.specs.Making.{Nodes}
 use Rattle.buckd.specs.Shows.{AreOrdered, at_rel_of, is_ordered, node_there, nodes_there}
 
@@ -24,13 +22,13 @@ abbrev is_before_all : List Flat → Flat → Bool
 is_before_all others node = list_all (is_after node.rel) others
 
 -- two lists in order of which the first comes before the second are in order together
-order-append : (xs ys : List Flat) → is_tree_order xs ≡ true → is_tree_order ys ≡ true → list_all (is_before_all ys) xs ≡ true →
-    is_tree_order (xs ++ ys) ≡ true
+order-append : (xs ys : List Flat) → ascends xs ≡ true → ascends ys ≡ true → list_all (is_before_all ys) xs ≡ true →
+    ascends (xs ++ ys) ≡ true
 order-append [] ys first second before = second
 order-append (x ∷ xs) ys first second before =
-    let firsts = and_true_parts (list_all (is_after x.rel) xs) (is_tree_order xs) first in
-    let befores = and_true_parts (is_before_all ys x) (list_all (is_before_all ys) xs) before in
-    and_from (list_all (is_after x.rel) (xs ++ ys)) (is_tree_order (xs ++ ys))
+    let firsts = and_parts (list_all (is_after x.rel) xs) (ascends xs) first in
+    let befores = and_parts (is_before_all ys x) (list_all (is_before_all ys) xs) before in
+    and_from (list_all (is_after x.rel) (xs ++ ys)) (ascends (xs ++ ys))
     (list_all-append (is_after x.rel) xs ys ∙ and_from (list_all (is_after x.rel) xs) (is_before_all ys x) firsts.0 befores.0)
     (order-append xs ys firsts.1 second befores.1)
 
@@ -39,7 +37,7 @@ all_picked : {A B : Type 0} (p : A → Bool) (q : B → Bool) (f : A → Option 
     (xs : List A) → list_all p xs ≡ true → list_all q (filter_map f xs) ≡ true
 all_picked p q f passes [] all = refl
 all_picked {A = A} p q f passes (x ∷ xs) all =
-    let parts = and_true_parts (p x) (list_all p xs) all in
+    let parts = and_parts (p x) (list_all p xs) all in
     let more : list_all q (filter_map f xs) ≡ true = all_picked p q f passes xs parts.1 in
     elim (f x) as (λ o. f x ≡ o → list_all q (cons_option o (filter_map f xs)) ≡ true)
     [ None ↦ λ is. more | Some y ↦ λ is. and_from (q y) (list_all q (filter_map f xs)) (passes x y is parts.0) more ] refl
@@ -58,27 +56,18 @@ abbrev KeepsOrder : (Flat → Option Flat) → Type 0
 KeepsOrder f = (x y z w : Flat) → f x ≡ Some z → f y ≡ Some w → is_after x.rel y ≡ true → is_after z.rel w ≡ true
 
 -- what such a function picks from nodes in order is in order
-order_picked : (f : Flat → Option Flat) → KeepsOrder f → (xs : List Flat) → is_tree_order xs ≡ true → is_tree_order (filter_map f xs) ≡ true
+order_picked : (f : Flat → Option Flat) → KeepsOrder f → (xs : List Flat) → ascends xs ≡ true → ascends (filter_map f xs) ≡ true
 order_picked f keeps [] order = refl
 order_picked f keeps (x ∷ xs) order =
-    let parts = and_true_parts (list_all (is_after x.rel) xs) (is_tree_order xs) order in
-    let more : is_tree_order (filter_map f xs) ≡ true = order_picked f keeps xs parts.1 in
-    elim (f x) as (λ o. f x ≡ o → is_tree_order (cons_option o (filter_map f xs)) ≡ true) [
+    let parts = and_parts (list_all (is_after x.rel) xs) (ascends xs) order in
+    let more : ascends (filter_map f xs) ≡ true = order_picked f keeps xs parts.1 in
+    elim (f x) as (λ o. f x ≡ o → ascends (cons_option o (filter_map f xs)) ≡ true) [
       | None ↦ λ is. more
       | Some z ↦ λ is.
-          and_from (list_all (is_after z.rel) (filter_map f xs)) (is_tree_order (filter_map f xs))
+          and_from (list_all (is_after z.rel) (filter_map f xs)) (ascends (filter_map f xs))
           (all_picked (is_after x.rel) (is_after z.rel) f (λ y w picked after. keeps x y z w is picked after) xs parts.0)
           more
     ] refl
-
--- nodes of which each comes before all behind it have rels of which each comes before the next
-rels-ascend : (nodes : List Flat) → is_tree_order nodes ≡ true → ascends (rels_of nodes) ≡ true
-rels-ascend [] order = refl
-rels-ascend (x ∷ []) order = refl
-rels-ascend (x ∷ y ∷ ys) order =
-    let parts = and_true_parts (list_all (is_after x.rel) (y ∷ ys)) (is_tree_order (y ∷ ys)) order in
-    let first = and_true_parts (is_after x.rel y) (list_all (is_after x.rel) ys) parts.0 in
-    and_from (is_after x.rel y) (ascends (rels_of (y ∷ ys))) first.0 (rels-ascend (y ∷ ys) parts.1)
 
 -- ---- nodes of rows
 
@@ -132,7 +121,7 @@ seen_before : (path : List (List ℕ)) (row : Row) (x z : Flat) → seen_node pa
     list_all (is_apart row) rows ≡ true → list_all (is_after z.rel) (flat_map (seen_of path) rows) ≡ true
 seen_before path row x z is [] all = refl
 seen_before path row x z is (next ∷ rows) all =
-    let parts = and_true_parts (is_apart row next) (list_all (is_apart row) rows) all in
+    let parts = and_parts (is_apart row next) (list_all (is_apart row) rows) all in
     let apart = apart_parts row next parts.0 in
     list_all-append (is_after z.rel) (seen_of path next) (flat_map (seen_of path) rows)
     ∙ and_from (list_all (is_after z.rel) (seen_of path next)) (list_all (is_after z.rel) (flat_map (seen_of path) rows))
@@ -145,11 +134,11 @@ seen_before path row x z is (next ∷ rows) all =
 
 -- the nodes of rows below a path are in order
 rows-ascend : (path : List (List ℕ)) (rows : List Row) → AreOrdered rows → are_apart rows ≡ true →
-    is_tree_order (flat_map (seen_of path) rows) ≡ true
+    ascends (flat_map (seen_of path) rows) ≡ true
 rows-ascend path [] ordered apart = refl
 rows-ascend path (row ∷ rows) ordered apart =
-    let orders = and_true_parts (is_ordered row) (list_all is_ordered rows) ordered in
-    let parts = and_true_parts (list_all (is_apart row) rows) (are_apart rows) apart in
+    let orders = and_parts (is_ordered row) (list_all is_ordered rows) ordered in
+    let parts = and_parts (list_all (is_apart row) rows) (are_apart rows) apart in
     order-append (seen_of path row) (flat_map (seen_of path) rows)
     (order_picked (seen_node path row.path) (seen_keeps path row.path) row.tree orders.0)
     (rows-ascend path rows orders.1 parts.1)
@@ -158,7 +147,6 @@ rows-ascend path (row ∷ rows) ordered apart =
 
 -- the nodes that a disk has where rows cover them are in strict order
 pub there-ascends : (path : List (List ℕ)) (rows : List Row) (disk : Nodes) → AreOrdered rows → are_apart rows ≡ true →
-    ascends (rels_of (nodes_there path rows disk)) ≡ true
+    ascends (nodes_there path rows disk) ≡ true
 there-ascends path rows disk ordered apart =
-    rels-ascend (nodes_there path rows disk)
-    (order_picked (node_there path disk) (there_keeps path disk) (flat_map (seen_of path) rows) (rows-ascend path rows ordered apart))
+    order_picked (node_there path disk) (there_keeps path disk) (flat_map (seen_of path) rows) (rows-ascend path rows ordered apart)

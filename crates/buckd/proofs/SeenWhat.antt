@@ -1,30 +1,21 @@
 -- What the nodes that a disk has, where rows cover them, have at each rel.
+use Rattle.mat_path.proofs.SameNames.{same_name-sym, same_names-eq}
+use Rattle.mat_path.proofs.Bools.{and_either}
+use Rattle.std.proofs.Math.Bool.{and_assoc}
 use Rattle.std.proofs.Common.{◌≡◌, ℕ, Bool, true, false, ◌&&◌, ◌||◌, List, [], ◌∷◌, ◌++◌, length, drop, Option, Some, None, cond, refl, sym, ap, ap₂, ◌∙◌}
 use Rattle.std.specs.List.{list_any, flat_map, filter_map, cons_option}
 use Rattle.std.specs.Option.{option_map}
 use Rattle.std.proofs.lemmas.Bool.{and_right}
 use Rattle.std.proofs.lemmas.List.Folds.{list_any-append}
 use Rattle.mat_path.specs.Names.{same_name, same_names, is_prefix}
-use Rattle.mat_path.proofs.PathLemmas.{same_names-eq}
 use Rattle.mat_tree.specs.declared.flat.Flat.{Flat}
 use Rattle.mat_tree.specs.declared.flat.What.{What}
 use Rattle.mat_tree.specs.Trees.{has_node, is_at, what_at}
-use Rattle.mat_tree.proofs.Paths.{same_name_symm}
 use Rattle.mat_model.specs.declared.book.Row.{Row}
 use Rattle.mat_model.specs.Rows.{at_rel, covers, seen_node, seen_of}
 use Rattle.buckd.specs.Making.{Nodes}
 use Rattle.buckd.specs.Shows.{at_rel_of, node_there, nodes_there}
 use Rattle.buckd.proofs.ListedOnce.{what_at-cons}
-
--- three tests, grouped to the right or to the left
-and_assoc : (x y z : Bool) → (x && (y && z)) ≡ ((x && y) && z)
-and_assoc true y z = refl
-and_assoc false y z = refl
-
--- a test with each of two is that test with either
-and_either : (p a b : Bool) → ((p && a) || (p && b)) ≡ (p && (a || b))
-and_either true a b = refl
-and_either false a b = refl
 
 -- names are a prefix and what follows it where that prefix begins them and the rest follows
 same_behind : (p q r : List (List ℕ)) → same_names (p ++ r) q ≡ (is_prefix p q && same_names r (drop (length p) q))
@@ -32,15 +23,15 @@ same_behind [] q r = refl
 same_behind (x ∷ p) [] r = refl
 same_behind (x ∷ p) (y ∷ q) r =
     ap (λ (t : Bool). same_name x y && t) (same_behind p q r)
-    ∙ and_assoc (same_name x y) (is_prefix p q) (same_names r (drop (length p) q))
+    ∙ sym (and_assoc (same_name x y) (is_prefix p q) (same_names r (drop (length p) q)))
 
 -- the same with the names first
 same_split : (p q r : List (List ℕ)) → same_names q (p ++ r) ≡ (is_prefix p q && same_names (drop (length p) q) r)
 same_split [] q r = refl
 same_split (x ∷ p) [] r = refl
 same_split (x ∷ p) (y ∷ q) r =
-    ap₂ (λ (s t : Bool). s && t) (same_name_symm y x) (same_split p q r)
-    ∙ and_assoc (same_name x y) (is_prefix p q) (same_names (drop (length p) q) r)
+    ap₂ (λ (s t : Bool). s && t) (same_name-sym y x) (same_split p q r)
+    ∙ sym (and_assoc (same_name x y) (is_prefix p q) (same_names (drop (length p) q) r))
 
 -- ---- which rels have a node
 

@@ -1,20 +1,21 @@
 -- What the disk has of the rows: the trees of those that stand, synced, and nothing but what rows cover. It stays so where a row
 -- is declared or used, and after a make.
+use Rattle.mat_path.proofs.Overlaps.{overlap-refl, overlap_of_prefixes}
+use Rattle.mat_path.proofs.SameNames.{same_names-eq}
 use Rattle.std.proofs.Common.{◌≡◌, ℕ, Bool, true, false, ◌&&◌, ◌||◌, List, [], ◌∷◌, ◌++◌, length, drop, Option, Some, None, cond, refl, sym, ap, ap₂, subst, ◌∙◌, map, find}
 use Rattle.std.specs.List.{list_all, list_any}
 use Rattle.std.specs.Option.{option_map}
-use Rattle.std.proofs.lemmas.Bool.{both_ways}
+use Rattle.std.proofs.lemmas.Bool.{and_parts, both_ways, or_parts}
 use Rattle.mat_path.specs.Names.{is_prefix, overlap}
-use Rattle.mat_path.proofs.PathLemmas.{overlap_comm, prefix-append_cases, same_names-eq}
+use Rattle.mat_path.proofs.PathLemmas.{overlap_comm, prefix-append_cases}
 use Rattle.mat_tree.specs.declared.flat.Flat.{Flat}
-use Rattle.mat_tree.specs.Parts.{Holds, Node, Part, below, declared_by}
+use Rattle.mat_tree.specs.Parts.{HasTree, Node, Part, below, declared_by}
 use Rattle.mat_tree.specs.Trees.{has_node}
 use Rattle.mat_model.specs.declared.book.Row.{Row}
-use Rattle.mat_model.specs.Holding.{AreHeld}
+use Rattle.mat_model.specs.OnDisk.{AreOnDisk}
 use Rattle.mat_model.specs.Rows.{are_apart, comes_before, covers, is_apart, is_at_path, overlaps_row, put_row}
-use Rattle.mat_model.proofs.Apart.{apart_parts, overlap-refl, above_overlap}
-use Rattle.mat_model.proofs.ListTests.{and_true_parts, or_false_parts}
-use Rattle.mat_model.proofs.Elements.{found_all, found_passes}
+use Rattle.model_laws.proofs.Apart.{apart_parts}
+use Rattle.model_laws.proofs.Elements.{found_all, found_passes}
 use Rattle.region_port.specs.Calls.{Paths}
 use Rattle.buckd.specs.Making.{Nodes, shown_by, with_nodes}
 use Rattle.buckd.specs.Shows.{IsCovered}
@@ -22,10 +23,10 @@ use Rattle.buckd.specs.Sound.{AreSynced}
 
 -- ---- a row that doesn't stand, put among them
 
-pub held-put_row : (content : Part) (new : Row) (rows : List Row) → new.stands ≡ false → AreHeld content rows → AreHeld content (put_row new rows)
+pub held-put_row : (content : Part) (new : Row) (rows : List Row) → new.stands ≡ false → AreOnDisk content rows → AreOnDisk content (put_row new rows)
 held-put_row content new [] lies held = (λ stands. absurd (both_ways new.stands lies stands), tt)
 held-put_row content new (row ∷ rows) lies (first, held) =
-    elim (comes_before new.path row.path) as (λ b. AreHeld content (cond b (new ∷ row ∷ rows) (row ∷ put_row new rows))) [
+    elim (comes_before new.path row.path) as (λ b. AreOnDisk content (cond b (new ∷ row ∷ rows) (row ∷ put_row new rows))) [
       | true ↦ (λ stands. absurd (both_ways new.stands lies stands), (first, held))
       | false ↦ (first, held-put_row content new rows lies held)
     ]
@@ -45,9 +46,9 @@ covers_put new [] place none = refl
 covers_put new (row ∷ rows) place none =
     elim (comes_before new.path row.path) as
     (λ b. list_any (covers place) (cond b (new ∷ row ∷ rows) (row ∷ put_row new rows)) ≡ false → list_any (covers place) (row ∷ rows) ≡ false) [
-      | true ↦ λ off. (or_false_parts (covers place new) (list_any (covers place) (row ∷ rows)) off).1
+      | true ↦ λ off. (or_parts (covers place new) (list_any (covers place) (row ∷ rows)) off).1
       | false ↦ λ off.
-          let parts = or_false_parts (covers place row) (list_any (covers place) (put_row new rows)) off in
+          let parts = or_parts (covers place row) (list_any (covers place) (put_row new rows)) off in
           ap₂ (λ (s t : Bool). s || t) parts.0 (covers_put new rows place parts.1)
     ] none
 
@@ -57,11 +58,11 @@ covered-put_row content new rows covered = λ place none. covered place (covers_
 -- ---- rows that each keep their path, their tree and whether they stand
 
 pub held-map : (content : Part) (f : Row → Row) → ((row : Row) → (f row).path ≡ row.path) → ((row : Row) → (f row).tree ≡ row.tree) →
-    ((row : Row) → (f row).stands ≡ row.stands) → (rows : List Row) → AreHeld content rows → AreHeld content (map f rows)
+    ((row : Row) → (f row).stands ≡ row.stands) → (rows : List Row) → AreOnDisk content rows → AreOnDisk content (map f rows)
 held-map content f paths trees stood [] held = tt
 held-map content f paths trees stood (row ∷ rows) (first, held) = (
-  λ stands. subst (λ (p : List (List ℕ)). Holds (below p content) (f row).tree) (sym (paths row))
-      (subst (λ (t : List Flat). Holds (below row.path content) t) (sym (trees row)) (first (sym (stood row) ∙ stands))),
+  λ stands. subst (λ (p : List (List ℕ)). HasTree (below p content) (f row).tree) (sym (paths row))
+      (subst (λ (t : List Flat). HasTree (below row.path content) t) (sym (trees row)) (first (sym (stood row) ∙ stands))),
   held-map content f paths trees stood rows held,
 )
 
@@ -106,7 +107,7 @@ off_path path p rel clear =
 
 -- what a disk holds below a path, by what it shows there
 held_shown : (content new : Part) (path p : List (List ℕ)) (inner : Nodes) (tree : List Flat) → overlap p path ≡ false →
-    shown_by new ≡ with_nodes path inner (shown_by content) → Holds (below p content) tree → Holds (below p new) tree
+    shown_by new ≡ with_nodes path inner (shown_by content) → HasTree (below p content) tree → HasTree (below p new) tree
 held_shown content new path p inner tree clear shown holds = λ rel.
     ap (λ (nodes : Nodes). nodes (p ++ rel)) shown
     ∙ ap (λ (b : Bool). cond b (inner (drop (length path) (p ++ rel))) (shown_by content (p ++ rel))) (off_path path p rel clear)
@@ -115,10 +116,10 @@ held_shown content new path p inner tree clear shown holds = λ rel.
 -- rows that are apart from the one at a path hold what they held
 pub held-others : (content new : Part) (path : List (List ℕ)) (inner : Nodes) (rows : List Row) →
     list_any (overlaps_row path) rows ≡ false → shown_by new ≡ with_nodes path inner (shown_by content) →
-    AreHeld content rows → AreHeld new rows
+    AreOnDisk content rows → AreOnDisk new rows
 held-others content new path inner [] clear shown held = tt
 held-others content new path inner (row ∷ rows) clear shown (first, held) =
-    let clears = or_false_parts (overlaps_row path row) (list_any (overlaps_row path) rows) clear in (
+    let clears = or_parts (overlaps_row path row) (list_any (overlaps_row path) rows) clear in (
       λ stands. held_shown content new path row.path inner row.tree clears.0 shown (first stands),
       held-others content new path inner rows clears.1 shown held,
     )
@@ -127,7 +128,7 @@ pub synced-others : (rough new : Paths) (path : List (List ℕ)) (rows : List Ro
     ((place : List (List ℕ)) → is_prefix path place ≡ false → new place ≡ rough place) → AreSynced rough rows → AreSynced new rows
 synced-others rough new path [] clear elsewhere synced = tt
 synced-others rough new path (row ∷ rows) clear elsewhere (first, synced) =
-    let clears = or_false_parts (overlaps_row path row) (list_any (overlaps_row path) rows) clear in (
+    let clears = or_parts (overlaps_row path row) (list_any (overlaps_row path) rows) clear in (
       λ stands place below. elsewhere place (off place below clears.0) ∙ first stands place below,
       synced-others rough new path rows clears.1 elsewhere synced,
     )
@@ -135,7 +136,7 @@ synced-others rough new path (row ∷ rows) clear elsewhere (first, synced) =
     off : (place : List (List ℕ)) → is_prefix row.path place ≡ true → overlap row.path path ≡ false → is_prefix path place ≡ false
     off place under clear_row =
         elim (is_prefix path place) as (λ b. is_prefix path place ≡ b → b ≡ false) [
-          | true ↦ λ above. absurd (both_ways (overlap row.path path) clear_row (above_overlap row.path path place under above))
+          | true ↦ λ above. absurd (both_ways (overlap row.path path) clear_row (overlap_of_prefixes row.path path place under above))
           | false ↦ λ above. refl
         ] refl
 
@@ -146,7 +147,7 @@ clear_of : (path : List (List ℕ)) (row : Row) (rows : List Row) → row.path �
     list_any (overlaps_row path) rows ≡ false
 clear_of path row [] at all = refl
 clear_of path row (next ∷ rows) at all =
-    let parts = and_true_parts (is_apart row next) (list_all (is_apart row) rows) all in
+    let parts = and_parts (is_apart row next) (list_all (is_apart row) rows) all in
     ap₂ (λ (s t : Bool). s || t)
     (ap (λ (p : List (List ℕ)). overlap next.path p) (sym at) ∙ overlap_comm next.path row.path ∙ (apart_parts row next parts.0).1)
     (clear_of path row rows at parts.1)
@@ -177,29 +178,29 @@ unchanged : (path : List (List ℕ)) (change : Row → Row) → IsChange path ch
     map change rows ≡ rows
 unchanged path change keeps [] clear = refl
 unchanged path change keeps (row ∷ rows) clear =
-    let clears = or_false_parts (overlaps_row path row) (list_any (overlaps_row path) rows) clear in
+    let clears = or_parts (overlaps_row path row) (list_any (overlaps_row path) rows) clear in
     ap₂ (λ (r : Row) (rs : List Row). r ∷ rs) (keeps row (not_at path row clears.0)) (unchanged path change keeps rows clears.1)
 
--- the disk holds the trees of the rows that stand after a make of the one at a path, where it holds that one's tree if it stands
+-- the disk has the trees of the rows that stand after a make of the one at a path, where it has that one's tree if it stands
 pub held-at : (content new : Part) (path : List (List ℕ)) (inner : Nodes) (change : Row → Row) (rows : List Row) (row : Row) →
     IsChange path change → are_apart rows ≡ true → find (is_at_path path) rows ≡ Some row →
-    shown_by new ≡ with_nodes path inner (shown_by content) → AreHeld content rows →
-    ((change row).stands ≡ true → Holds (below (change row).path new) (change row).tree) → AreHeld new (map change rows)
+    shown_by new ≡ with_nodes path inner (shown_by content) → AreOnDisk content rows →
+    ((change row).stands ≡ true → HasTree (below (change row).path new) (change row).tree) → AreOnDisk new (map change rows)
 held-at content new path inner change [] row keeps apart found shown held here = tt
 held-at content new path inner change (next ∷ rows) row keeps apart found shown (first, held) here =
-    let parts = and_true_parts (list_all (is_apart next) rows) (are_apart rows) apart in
+    let parts = and_parts (list_all (is_apart next) rows) (are_apart rows) apart in
     elim (is_at_path path next) as
-    (λ b. is_at_path path next ≡ b → cond b (Some next) (find (is_at_path path) rows) ≡ Some row → AreHeld new (map change (next ∷ rows))) [
+    (λ b. is_at_path path next ≡ b → cond b (Some next) (find (is_at_path path) rows) ≡ Some row → AreOnDisk new (map change (next ∷ rows))) [
       | true ↦ λ at is.
           let same : row ≡ next = cc in
           let clear : list_any (overlaps_row path) rows ≡ false = clear_of path next rows (same_names-eq next.path path at) parts.0 in (
-            subst (λ (r : Row). (change r).stands ≡ true → Holds (below (change r).path new) (change r).tree) same here,
-            subst (λ (rs : List Row). AreHeld new rs) (sym (unchanged path change keeps rows clear))
+            subst (λ (r : Row). (change r).stands ≡ true → HasTree (below (change r).path new) (change r).tree) same here,
+            subst (λ (rs : List Row). AreOnDisk new rs) (sym (unchanged path change keeps rows clear))
                 (held-others content new path inner rows clear shown held),
           )
       | false ↦ λ at is.
           let clear : overlap next.path path ≡ false = clear_other path next row rows parts.0 is in (
-            subst (λ (r : Row). r.stands ≡ true → Holds (below r.path new) r.tree) (sym (keeps next at))
+            subst (λ (r : Row). r.stands ≡ true → HasTree (below r.path new) r.tree) (sym (keeps next at))
                 (λ stands. held_shown content new path next.path inner next.tree clear shown (first stands)),
             held-at content new path inner change rows row keeps parts.1 is shown held here,
           )
@@ -213,7 +214,7 @@ pub synced-at : (rough new : Paths) (path : List (List ℕ)) (change : Row → R
     AreSynced new (map change rows)
 synced-at rough new path change [] row keeps apart found elsewhere synced here = tt
 synced-at rough new path change (next ∷ rows) row keeps apart found elsewhere (first, synced) here =
-    let parts = and_true_parts (list_all (is_apart next) rows) (are_apart rows) apart in
+    let parts = and_parts (list_all (is_apart next) rows) (are_apart rows) apart in
     elim (is_at_path path next) as
     (λ b. is_at_path path next ≡ b → cond b (Some next) (find (is_at_path path) rows) ≡ Some row → AreSynced new (map change (next ∷ rows))) [
       | true ↦ λ at is.
@@ -257,7 +258,7 @@ covered-at content new path inner rows row found shown covered only = λ place n
         covers place row ≡ false
     no_cover [] place is none = cc
     no_cover (next ∷ some) place is none =
-        let parts = or_false_parts (covers place next) (list_any (covers place) some) none in
+        let parts = or_parts (covers place next) (list_any (covers place) some) none in
         elim (is_at_path path next) as (λ b. cond b (Some next) (find (is_at_path path) some) ≡ Some row → covers place row ≡ false) [
           | true ↦ λ here. let same : next ≡ row = cc in subst (λ (r : Row). covers place r ≡ false) same parts.0
           | false ↦ λ here. no_cover some place here parts.1

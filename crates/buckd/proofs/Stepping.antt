@@ -9,7 +9,7 @@ use Rattle.mat_model.specs.declared.entries.Outcome.{Outcome}
 use Rattle.mat_model.specs.declared.entries.Task.{Task}
 use Rattle.mat_model.specs.Gate.{Served}
 use Rattle.mat_model.specs.Work.{finish}
-use Rattle.mat_model.specs.Yard.{first_task}
+use Rattle.mat_model.specs.WorkState.{first_task}
 use Rattle.buckd.specs.Run.{Point, Scene, entry_at, idle, made, made_if, make_first, makes, next, worked}
 
 -- the history after a make's begin

@@ -1,23 +1,21 @@
 -- Rows whose bytes are at hand: they stay so where the history grows, where one is put among them, and where each keeps its
 -- path, its tree and its stamp.
+use Rattle.mat_path.proofs.Overlaps.{overlap-refl}
 use Rattle.std.proofs.Common.{◌≡◌, ℕ, zero, suc, ◌<◌, Bool, true, false, List, [], ◌∷◌, ◌++◌, length, Option, Some, cond, Less, Equal, Greater, refl, sym, ap, ap₂, subst, ◌∙◌, map, find, arith}
 use Rattle.std.specs.List.{list_all, list_any, slice_get}
 use Rattle.std.specs.Option.{option_map_or}
 use Rattle.std.specs.Ordering.{is_eq}
-use Rattle.std.proofs.lemmas.Bool.{and_from, both_ways}
+use Rattle.std.proofs.lemmas.Bool.{and_from, both_ways, or_parts}
 use Rattle.std.proofs.lemmas.List.{length_push}
 use Rattle.mat_path.specs.Names.{overlap, path_cmp}
 use Rattle.mat_path.proofs.PathLemmas.{path_cmp_equal}
-use Rattle.mat_tree.specs.Trees.{IsTree}
+use Rattle.mat_tree.specs.Trees.{IsTree, is_placed}
 use Rattle.mat_tree.specs.declared.flat.Flat.{Flat}
 use Rattle.mat_model.specs.declared.book.Row.{Row}
 use Rattle.mat_model.specs.declared.entries.Entry.{Entry}
-use Rattle.mat_model.specs.Declarations.{stands_at_path}
 use Rattle.mat_model.specs.Rows.{comes_before, overlaps_row, put_row, used_row}
-use Rattle.mat_model.proofs.ListTests.{or_false_parts}
-use Rattle.mat_model.proofs.Apart.{overlap-refl}
-use Rattle.mat_model.proofs.LawLemmas.{used-stamp}
-use Rattle.mat_model.proofs.Changes.{used-path, used-tree}
+use Rattle.model_laws.proofs.LawLemmas.{used-stamp}
+use Rattle.model_laws.proofs.Changes.{used-path, used-tree}
 use Rattle.buckd.specs.Making.{IsAtHand}
 use Rattle.buckd.specs.Run.{is_held, is_write_entry}
 use Rattle.buckd.specs.Shows.{AreOrdered, is_ordered}
@@ -79,7 +77,7 @@ supplied_kept : (history : List Entry) (kept new_kept : Kept) (path : List (List
     AreSupplied history new_kept rows
 supplied_kept history kept new_kept path [] all clear keeps = tt
 supplied_kept history kept new_kept path (row ∷ rows) (s, all) clear keeps =
-    let clears = or_false_parts (overlaps_row path row) (list_any (overlaps_row path) rows) clear in (
+    let clears = or_parts (overlaps_row path row) (list_any (overlaps_row path) rows) clear in (
       record {
         tree = s.tree;
         places = s.places;
@@ -116,7 +114,7 @@ supplied-map history kept f paths trees stamps [] all = tt
 supplied-map history kept f paths trees stamps (row ∷ rows) (s, all) = (
   record {
     tree = subst (λ (t : List Flat). IsTree t) (sym (trees row)) s.tree;
-    places = ap₂ (λ (p : List (List ℕ)) (t : List Flat). list_all (stands_at_path p) t) (paths row) (trees row) ∙ s.places;
+    places = ap₂ (λ (p : List (List ℕ)) (t : List Flat). list_all (is_placed p) t) (paths row) (trees row) ∙ s.places;
     method = s.method;
     found = ap (λ (p : List (List ℕ)). kept p) (paths row) ∙ s.found;
     bytes = subst (λ (t : List Flat). IsAtHand s.method t) (sym (trees row)) s.bytes;

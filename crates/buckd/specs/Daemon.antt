@@ -11,10 +11,10 @@ use Rattle.mat_model.specs.declared.entries.Outcome.{Outcome}
 use Rattle.mat_model.specs.declared.entries.Outcome.TheVariants as outcome
 use Rattle.mat_path.specs.Names.{is_prefix}
 use Rattle.mat_tree.specs.declared.flat.Flat.{Flat}
-use Rattle.mat_tree.specs.Parts.{Holds, below}
+use Rattle.mat_tree.specs.Parts.{HasTree, below}
 use Rattle.write_plan.specs.declared.act.Act.{Act}
-use Rattle.fetch_port.specs.Memory.{blobs_of}
-use Rattle.region_port.specs.Disks.{disk_content, disk_rough}
+use Rattle.fetch_port.specs.Memory.{blobs_of, store_asks}
+use Rattle.region_port.specs.Disks.{disk_content, disk_loans, disk_rough}
 use Rattle.buckd.specs.Making.{acts_done, asks_after, left_by, no_nodes, outcome_of, shown_by, with_nodes}
 use Rattle.buckd.specs.Run.{Point, Scene, Told, ask, asked_scene}
 
@@ -40,7 +40,7 @@ abbrev pub scene_of : Daemon → Scene
 scene_of d = record {
   point = point_of d;
   blobs = blobs_of d.store;
-  asks = d.store.asks;
+  asks = store_asks d.store;
   disk = shown_by (disk_content d.disk);
 }
 
@@ -66,13 +66,13 @@ pub record Tells (told : Told) (new : Daemon) (before after : List ℕ) : Type 0
 abbrev pub task_for : List (List ℕ) × ℕ → Task
 task_for pair = task.Make pair.0 pair.1
 
--- the part of the disk at a path was made by some acts, up to the first that failed: it holds a tree, and is synced, where
+-- the part of the disk at a path was made by some acts, up to the first that failed: it has a tree, and is synced, where
 -- none did; what the disk shows elsewhere stays
 pub record Makes (path : List (List ℕ)) (acts : List Act) (tree : List Flat) (old new : Daemon) (ended : Outcome) : Type 0 where
   pub ends : ended ≡ outcome_of (blobs_of old.store) acts
-  pub asks : new.store.asks ≡ asks_after (blobs_of old.store) acts old.store.asks
+  pub asks : store_asks new.store ≡ asks_after (blobs_of old.store) acts (store_asks old.store)
   pub shown : shown_by (disk_content new.disk)
       ≡ with_nodes path (left_by (acts_done (blobs_of old.store) acts) no_nodes) (shown_by (disk_content old.disk))
-  pub holds : ended ≡ outcome.Made → Holds (below path (disk_content new.disk)) tree
+  pub holds : ended ≡ outcome.Made → HasTree (below path (disk_content new.disk)) tree
   pub synced : ended ≡ outcome.Made → (place : List (List ℕ)) → is_prefix path place ≡ true → disk_rough new.disk place ≡ false
   pub elsewhere : (place : List (List ℕ)) → is_prefix path place ≡ false → disk_rough new.disk place ≡ disk_rough old.disk place

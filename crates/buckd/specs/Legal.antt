@@ -2,7 +2,7 @@
 use Rattle.std.specs.Prelude.{◌≡◌, Bool, true, false, []}
 use Rattle.std.specs.List.{list_all}
 use Rattle.mat_model.specs.History.{IsLegal, Opening, book_of, is_of, point_of}
-use Rattle.mat_model.specs.Yard.{Way, WayOf, copied, held, store}
+use Rattle.mat_model.specs.WorkState.{Way, WayOf, copied, held, store}
 use Rattle.buckd.specs.declared.daemon.Run.{Run}
 use Rattle.buckd.specs.Run.{Point, empty_book}
 
@@ -31,9 +31,9 @@ pub record IsLawful (point : Point) : Type 0 where
 -- between two lines also no job runs, nothing is debris, and no row was copied
 pub record IsLegalAt (point : Point) : Type 0 where
   pub lawful : IsLawful point
-  pub jobs : (point_of new_daemon point.history).yard.jobs ≡ []
-  pub debris : (point_of new_daemon point.history).yard.debris ≡ []
-  pub ways : list_all is_own_way (point_of new_daemon point.history).yard.ways ≡ true
+  pub jobs : (point_of new_daemon point.history).work.jobs ≡ []
+  pub debris : (point_of new_daemon point.history).work.debris ≡ []
+  pub ways : list_all is_own_way (point_of new_daemon point.history).work.ways ≡ true
 
 -- what is left of a run: a legal history from an empty book and an empty disk, and the book of it
 pub record IsLegalRun (run : Run) : Type 0 where

@@ -3,7 +3,7 @@ use Rattle.std.specs.Prelude.{◌≡◌, ℕ, ◌+◌, ◌&&◌, Bool, true, fal
 use Rattle.std.specs.Option.{is_some, option_map}
 use Rattle.mat_digest.specs.Digests.{digest_of}
 use Rattle.mat_digest.specs.declared.digest.Digest.{Digest}
-use Rattle.mat_io.specs.Causes.{counted}
+use Rattle.mat_io.specs.Causes.{risen}
 use Rattle.mat_path.specs.Names.{is_path, is_prefix, same_names}
 use Rattle.mat_tree.specs.Parts.{Part, declared_by}
 use Rattle.mat_tree.specs.Trees.{file_tree, same_digest}
@@ -85,7 +85,7 @@ asks_store act.Sync = false
 
 -- how often the store was asked after an act, and after some up to the first that fails
 abbrev pub asked_by : Act → ℕ → ℕ
-asked_by one asks = if asks_store one then counted asks else asks
+asked_by one asks = if asks_store one then risen asks else asks
 
 abbrev pub asks_after : Blobs → List Act → ℕ → ℕ
 asks_after blobs [] asks = asks

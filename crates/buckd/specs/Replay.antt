@@ -5,9 +5,9 @@ use Rattle.std.specs.String.{string_bytes}
 use Rattle.mat_io.specs.declared.answer.Got.{Got}
 use Rattle.mat_io.specs.declared.answer.Got.TheVariants as got
 use Rattle.mat_io.specs.Streams.{Grows, GrowsInPart}
-use Rattle.mat_model.specs.Holding.{AreHeld}
+use Rattle.mat_model.specs.OnDisk.{AreOnDisk}
 use Rattle.region_port.specs.declared.mem_disk.MemDisk.{MemDisk}
-use Rattle.region_port.specs.Disks.{disk_content, disk_rough}
+use Rattle.region_port.specs.Disks.{disk_content, disk_loans, disk_rough}
 use Rattle.buckd.specs.declared.daemon.Daemon.{Daemon}
 use Rattle.buckd.specs.declared.daemon.Run.{Run}
 use Rattle.buckd.specs.declared.replay.Ended.{Ended}
@@ -140,14 +140,14 @@ abbrev pub IsAt : Scene → Ended → Type 0
 IsAt scene ended =
     IfSome ended.run (λ (r : Run). run_at r ≡ scene.point) × IfSome ended.disk (λ (d : MemDisk). shown_by (disk_content d) ≡ scene.disk)
 
--- a disk that is there holds the tree of each row that stands in the run's book, and all of that is synced
+-- a disk that is there has the tree of each row that stands in the run's book, and all of that is synced
 abbrev pub IsHeldBy : Option Run → Option MemDisk → Type 0
 IsHeldBy run disk =
-    IfSome run (λ (r : Run). IfSome disk (λ (d : MemDisk). AreHeld (disk_content d) r.book.rows × AreSynced (disk_rough d) r.book.rows))
+    IfSome run (λ (r : Run). IfSome disk (λ (d : MemDisk). AreOnDisk (disk_content d) r.book.rows × AreSynced (disk_rough d) r.book.rows))
 
 -- a disk that is there is lent nowhere
 abbrev pub IsHome : Option MemDisk → Type 0
-IsHome disk = IfSome disk (λ (d : MemDisk). d.loans.items ≡ [])
+IsHome disk = IfSome disk (λ (d : MemDisk). disk_loans d ≡ [])
 
 -- a run that is there has a legal history, and the book of it
 abbrev pub IsLegalWhere : Option Run → Type 0
@@ -183,7 +183,7 @@ abbrev pub is_status : ℕ → Bool
 is_status status = has_run status || (status == 1)
 
 -- the run and the disk are there where the status has them, the history is legal and the book is the book of it, and
--- the disk holds the tree of each row that the book says stands, synced, and is lent nowhere
+-- the disk has the tree of each row that the book says stands, synced, and is lent nowhere
 pub record Leaves (ended : Ended) : Type 0 where
   pub run : is_some ended.run ≡ has_run ended.status
   pub disk : is_some ended.disk ≡ has_run ended.status

@@ -23,11 +23,11 @@ use Rattle.mat_model.specs.declared.requests.Asked.TheVariants as asked
 use Rattle.mat_model.specs.declared.requests.Request.{Request}
 use Rattle.mat_model.specs.declared.requests.Request.TheVariants as request
 use Rattle.mat_model.specs.Gate.{Served, is_live}
-use Rattle.mat_model.specs.Requests.{Aside, serve}
+use Rattle.mat_model.specs.Requests.{RequestContext, serve}
 use Rattle.mat_model.specs.Rows.{overlaps_row}
 use Rattle.mat_model.specs.Tickets.{is_open}
 use Rattle.mat_model.specs.Work.{finish, is_declared}
-use Rattle.mat_model.specs.Yard.{Yard, first_task, idle_yard, path_of_task}
+use Rattle.mat_model.specs.WorkState.{WorkState, first_task, idle_work, path_of_task}
 use Rattle.fetch_port.specs.Fetches.{Blobs}
 use Rattle.write_plan.specs.declared.act.Act.{Act}
 use Rattle.write_plan.specs.declared.act.Act.TheVariants as act
@@ -83,12 +83,12 @@ entered happened served point = record {
 }
 
 -- beside the book no request finds anything here: no debris, and no rows to be stored
-abbrev pub nothing_aside : Aside
-nothing_aside = record { strays = []; due = 0 }
+abbrev pub empty_context : RequestContext
+empty_context = record { strays = []; due = 0 }
 
 -- a request at moment 0
 abbrev pub ask : Asked → Point → Step
-ask request point = entered (event.Asked request) (serve (next point) 0 nothing_aside request point.book) point
+ask request point = entered (event.Asked request) (serve (next point) 0 empty_context request point.book) point
 
 -- a request as a history keeps it
 abbrev pub asked_of : Request → Asked
@@ -192,8 +192,8 @@ made_if scene None = scene
 made_if scene (Some task) = made task scene
 
 -- the work state of a daemon between two lines: no job runs, and no part of the disk is debris
-abbrev pub idle : Yard
-idle = idle_yard []
+abbrev pub idle : WorkState
+idle = idle_work []
 
 -- the make that comes first, if there is one
 abbrev pub make_first : Scene → Scene

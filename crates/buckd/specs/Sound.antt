@@ -4,16 +4,15 @@ use Rattle.std.specs.List.{list_all}
 use Rattle.std.specs.Option.{option_map_or}
 use Rattle.std.specs.BTreeMap.{get}
 use Rattle.mat_path.specs.Names.{is_prefix, path_cmp}
-use Rattle.mat_tree.specs.Trees.{IsTree}
+use Rattle.mat_tree.specs.Trees.{IsTree, is_placed}
 use Rattle.mat_model.specs.declared.book.Given.{Given}
 use Rattle.mat_model.specs.declared.book.Row.{Row}
 use Rattle.mat_model.specs.declared.book.Ticket.{Ticket}
 use Rattle.mat_model.specs.declared.entries.Entry.{Entry}
-use Rattle.mat_model.specs.Declarations.{stands_at_path}
-use Rattle.mat_model.specs.Holding.{AreHeld}
+use Rattle.mat_model.specs.OnDisk.{AreOnDisk}
 use Rattle.mat_model.specs.Rows.{are_apart}
 use Rattle.region_port.specs.Calls.{Paths}
-use Rattle.region_port.specs.Disks.{disk_content, disk_rough}
+use Rattle.region_port.specs.Disks.{disk_content, disk_loans, disk_rough}
 use Rattle.write_plan.specs.declared.method.Method.{Method}
 use Rattle.buckd.specs.declared.daemon.Daemon.{Daemon}
 use Rattle.buckd.specs.Daemon.{point_of}
@@ -30,7 +29,7 @@ Kept = List (List ℕ) → Option Method
 -- exactly where the entry with its stamp is a write
 pub record IsSupplied (history : List Entry) (kept : Kept) (row : Row) : Type 0 where
   pub tree : IsTree row.tree
-  pub places : list_all (stands_at_path row.path) row.tree ≡ true
+  pub places : list_all (is_placed row.path) row.tree ≡ true
   pub method : Method
   pub found : kept row.path ≡ Some method
   pub bytes : IsAtHand method row.tree
@@ -60,15 +59,15 @@ abbrev pub is_answered_before : ℕ → Ticket → Bool
 is_answered_before number ticket = option_map_or (is_before number) ticket.answered true
 
 -- the rows of a daemon are in order and apart, there is a state only with a live command, each row's bytes are at hand,
--- the disk holds the trees of the rows that stand, all synced, and has nothing but what rows cover, and it is lent nowhere
+-- the disk has the trees of the rows that stand, all synced, and has nothing but what rows cover, and it is lent nowhere
 pub record IsKeptWith (history : List Entry) (d : Daemon) : Type 0 where
   pub apart : are_apart d.rows.items ≡ true
   pub idle : length d.live.items ≡ 0 → d.state ≡ None
   pub supplied : AreSupplied history (kept_by d) d.rows.items
-  pub held : AreHeld (disk_content d.disk) d.rows.items
+  pub held : AreOnDisk (disk_content d.disk) d.rows.items
   pub synced : AreSynced (disk_rough d.disk) d.rows.items
   pub covered : IsCovered (disk_content d.disk) d.rows.items
-  pub free : d.disk.loans.items ≡ []
+  pub free : disk_loans d.disk ≡ []
 
 abbrev pub IsKept : Daemon → Type 0
 IsKept d = IsKeptWith d.history.items d

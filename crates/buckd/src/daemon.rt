@@ -1,4 +1,5 @@
 // A daemon over plain lists: its book, its history, the disk that it writes and the store that it reads.
+ghost use Rattle.model_laws.specs.Laws.{declared_alone};
 ghost use Rattle.std.specs.Prelude.{◌≡◌, ◌∷◌, ◌++◌, ◌+◌, ◌&&◌, ◌<◌, ◌≤◌, ◌^◌, [], ℕ, List, None, Some, find, length, true, false, IfOk, OnOk};
 ghost use Rattle.std.specs.List.{list_all, list_any};
 ghost use Rattle.std.specs.Option.{is_some, option_map};
@@ -8,23 +9,22 @@ ghost use Rattle.mat_path.specs.Names.{path_cmp};
 ghost use Rattle.mat_digest.specs.Digests.{digest_of};
 ghost use Rattle.mat_digest.specs.declared.digest.Digest.{Digest as TheDigest};
 ghost use Rattle.mat_tree.specs.Parts.{bare};
-ghost use Rattle.mat_tree.specs.Trees.{IsTree, file_sum, file_tree};
+ghost use Rattle.mat_tree.specs.Trees.{IsTree, file_sum, file_tree, is_placed};
 ghost use Rattle.mat_model.specs.declared.entries.Entry.{Entry as TheEntry};
 ghost use Rattle.mat_model.specs.declared.entries.Event.TheVariants as event;
 ghost use Rattle.mat_model.specs.declared.entries.Task.TheVariants as task;
 ghost use Rattle.mat_model.specs.declared.requests.Asked.TheVariants as asked;
 ghost use Rattle.mat_model.specs.declared.answers.Recorded.TheVariants as recorded;
-ghost use Rattle.mat_model.specs.Declarations.{declare_tree, new_row, stands_at_path};
+ghost use Rattle.mat_model.specs.Declarations.{declare_tree, new_row};
 ghost use Rattle.mat_model.specs.Gate.{is_live, enter};
-ghost use Rattle.mat_model.specs.Holding.{AreHeld};
+ghost use Rattle.mat_model.specs.OnDisk.{AreOnDisk};
 ghost use Rattle.mat_model.specs.Requests.{ensure, grant};
 ghost use Rattle.mat_model.specs.Rows.{overlaps_row};
 ghost use Rattle.mat_model.specs.Tickets.{is_open};
 ghost use Rattle.mat_model.specs.Work.{end_make, is_declared};
-ghost use Rattle.mat_model.specs.Yard.{first_task};
-ghost use Rattle.mat_model.proofs.Clear.{declared_alone};
-ghost use Rattle.fetch_port.specs.Memory.{blobs_of};
-ghost use Rattle.region_port.specs.Disks.{disk_content, disk_rough};
+ghost use Rattle.mat_model.specs.WorkState.{first_task};
+ghost use Rattle.fetch_port.specs.Memory.{blobs_of, store_asks};
+ghost use Rattle.region_port.specs.Disks.{disk_content, disk_loans, disk_rough};
 ghost use Rattle.script_lang.specs.Bounds.{HasBounds, HasLineBounds, HasRequestBounds};
 ghost use Rattle.buckd.specs.Making.{IsAtHand, is_write, shown_by};
 ghost use Rattle.buckd.specs.Run.{entry_at, is_write_entry};
@@ -157,7 +157,7 @@ impl Daemon {
     fn empty(alloc: Global) -> Daemon
         ensures point { point_of result ≡ start_point }
         ensures blobs { (digest : TheDigest) → blobs_of result.store digest ≡ None }
-        ensures asks { result.store.asks ≡ 0 }
+        ensures asks { store_asks result.store ≡ 0 }
         ensures content { disk_content result.disk ≡ bare }
         ensures ready { IsReady result }
     {
@@ -187,9 +187,9 @@ impl Daemon {
         requires { IsReady self }
         ensures book { result.0.book ≡ (point_of self).book }
         ensures history { result.0.history ≡ (point_of self).history }
-        ensures held { AreHeld (disk_content result.1) result.0.book.rows }
+        ensures held { AreOnDisk (disk_content result.1) result.0.book.rows }
         ensures synced { AreSynced (disk_rough result.1) result.0.book.rows }
-        ensures free { result.1.loans.items ≡ [] }
+        ensures free { disk_loans result.1 ≡ [] }
         ensures shown { shown_by (disk_content result.1) ≡ (scene_of self).disk }
     {
         let Daemon {
@@ -222,9 +222,9 @@ impl Daemon {
         requires { IsSound self }
         ensures book { result.0.book ≡ (point_of self).book }
         ensures history { result.0.history ≡ (point_of self).history }
-        ensures held { AreHeld (disk_content result.1) result.0.book.rows }
+        ensures held { AreOnDisk (disk_content result.1) result.0.book.rows }
         ensures synced { AreSynced (disk_rough result.1) result.0.book.rows }
-        ensures free { result.1.loans.items ≡ [] }
+        ensures free { disk_loans result.1 ≡ [] }
         ensures shown { shown_by (disk_content result.1) ≡ (scene_of self).disk }
         ensures legal { IsLegalRun result.0 }
     {
@@ -291,7 +291,7 @@ impl Daemon {
     ) -> Result<Reply, Memory>
         requires clear { list_any (overlaps_row path.now) self.old.rows.items ≡ false }
         requires kept { IsKept self.old }
-        requires places { list_all (stands_at_path path.now) tree ≡ true }
+        requires places { list_all (is_placed path.now) tree ≡ true }
         requires bytes { IsAtHand method tree }
         ensures served { IfOk result (λ reply. Serves
             (declared_alone (length self.old.history.items) command path.now tree (book_of self.old)) self.old self.new reply) }
@@ -316,7 +316,7 @@ impl Daemon {
     ) -> Result<Reply, Memory>
         requires clear { (is_live command (book_of self.old) && list_any (overlaps_row path.now) self.old.rows.items) ≡ false }
         requires kept { IsKept self.old }
-        requires places { list_all (stands_at_path path.now) tree ≡ true }
+        requires places { list_all (is_placed path.now) tree ≡ true }
         requires bytes { IsAtHand method tree }
         ensures served { IfOk result (λ reply. Serves
             (declare_tree (length self.old.history.items) command path.now tree (book_of self.old)) self.old self.new reply) }
@@ -405,7 +405,7 @@ impl Daemon {
     fn serve_declare(&mut self, command: u32, path: Path, tree: Tree) -> Result<Reply, Memory>
         requires clear { (is_live command (book_of self.old) && list_any (overlaps_row path) self.old.rows.items) ≡ false }
         requires kept { IsKept self.old }
-        requires places { list_all (stands_at_path path) tree ≡ true }
+        requires places { list_all (is_placed path) tree ≡ true }
         ensures served { IfOk result (λ reply. Steps (asked.Declare command path tree) self.old self.new reply) }
         ensures kept { OnOk result (IsKept self.new) }
         ensures past { (number : ℕ) → IsPast number self.old → OnOk result (IsPast number self.new) }
@@ -476,13 +476,13 @@ impl Daemon {
         }
     }
 
-    /// Makes the disk hold the tree of the row that was declared at a path under a stamp, unless a file has no right bytes.
+    /// Makes the disk have the tree of the row that was declared at a path under a stamp, unless a file has no right bytes.
     fn make_part(&mut self, path: &Path, stamp: u64) -> Result<Outcome, Memory>
         requires found { is_some (find (is_declared path.now stamp) self.old.rows.items) ≡ true }
         requires kept { IsKept self.old }
         ensures made { IfOk result (λ outcome. Makes path.now (acts_of (task.Make path.now stamp) (point_of self.old))
             (declared_tree path.now stamp self.old.rows.items) self.old self.new outcome) }
-        ensures free { self.new.disk.loans.items ≡ [] }
+        ensures free { disk_loans self.new.disk ≡ [] }
         ensures same { KeepsBook self.old self.new }
         ensures blobs { blobs_of self.new.store ≡ blobs_of self.old.store }
     {

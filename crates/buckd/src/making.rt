@@ -1,15 +1,15 @@
 // How a row is made: the acts of its plan, one after the other, up to the first file that has no right bytes.
+ghost use Rattle.mat_tree.specs.Trees.{is_placed};
 ghost use Rattle.std.specs.Prelude.{◌≡◌, ◌++◌, if◌then◌else◌, [], ℕ, List, Some, false, true, IfOk, OnOk};
 ghost use Rattle.std.specs.List.{list_all};
 ghost use Rattle.std.specs.Option.{is_some};
-ghost use Rattle.mat_io.specs.Causes.{counted};
+ghost use Rattle.mat_io.specs.Causes.{risen};
 ghost use Rattle.mat_path.specs.Names.{is_path, is_prefix};
-ghost use Rattle.mat_tree.specs.Parts.{Holds, below, file, with_node};
-ghost use Rattle.mat_model.specs.Declarations.{stands_at_path};
+ghost use Rattle.mat_tree.specs.Parts.{HasTree, below, file, with_node};
 ghost use Rattle.mat_model.specs.declared.entries.Outcome.TheVariants as outcome;
-ghost use Rattle.fetch_port.specs.Memory.{blobs_of};
+ghost use Rattle.fetch_port.specs.Memory.{blobs_of, store_asks};
 ghost use Rattle.region_port.specs.Calls.{with_path};
-ghost use Rattle.region_port.specs.Disks.{disk_content, disk_rough};
+ghost use Rattle.region_port.specs.Disks.{disk_content, disk_loans, disk_rough};
 ghost use Rattle.region_port.specs.Memory.{part_of, rough_of};
 ghost use Rattle.write_plan.specs.Carried.{carry, carry_one};
 ghost use Rattle.buckd.specs.Brought.{Brings};
@@ -57,7 +57,7 @@ fn checked(wanted: Digest, bytes: Vec<u8>) -> Brought
 fn fetch(store: &mut MemStore, wanted: Digest) -> Result<Brought, Memory>
     ensures brings { IfOk result (λ brought. Brings (given (blobs_of store.old) wanted) wanted brought) }
     ensures blobs { blobs_of store.new ≡ blobs_of store.old }
-    ensures asks { store.new.asks ≡ counted store.old.asks }
+    ensures asks { store_asks store.new ≡ risen (store_asks store.old) }
 {
     match store.fetch(&wanted) {
         Fetched::Bytes(bytes) => Ok(checked(wanted, bytes)),
@@ -78,7 +78,7 @@ fn put_fetched(
     requires { is_path (region.old.place ++ rel.now) ≡ true }
     ensures place { region.new.place ≡ region.old.place }
     ensures blobs { blobs_of store.new ≡ blobs_of store.old }
-    ensures asks { OnOk result (store.new.asks ≡ counted store.old.asks) }
+    ensures asks { OnOk result (store_asks store.new ≡ risen (store_asks store.old)) }
     ensures failure { IfOk result (λ failure. failure ≡ fetch_failure digest (given (blobs_of store.old) digest)) }
     ensures part { IfOk result (λ failure. part_of region.new ≡ (if is_some failure then part_of region.old
         else with_node rel.now (file (bytes_or_none (given (blobs_of store.old) digest)) exec) (part_of region.old))) }
@@ -119,7 +119,7 @@ fn put_supplied(
     requires supplied { is_supply method.now digest from.now ≡ true }
     ensures place { region.new.place ≡ region.old.place }
     ensures blobs { blobs_of store.new ≡ blobs_of store.old }
-    ensures asks { OnOk result (store.new.asks ≡ (if is_store from.now then counted store.old.asks else store.old.asks)) }
+    ensures asks { OnOk result (store_asks store.new ≡ (if is_store from.now then risen (store_asks store.old) else (store_asks store.old))) }
     ensures failure { IfOk result (λ failure. failure ≡ file_failure (blobs_of store.old) digest from.now) }
     ensures part { IfOk result (λ failure. part_of region.new ≡ (if is_some failure then part_of region.old
         else with_node rel.now (file (supplied (blobs_of store.old) method.now digest) exec) (part_of region.old))) }
@@ -146,7 +146,7 @@ fn put_act(
     requires supplied { is_supplied method.now act.now ≡ true }
     ensures place { region.new.place ≡ region.old.place }
     ensures blobs { blobs_of store.new ≡ blobs_of store.old }
-    ensures asks { OnOk result (store.new.asks ≡ asked_by act.now store.old.asks) }
+    ensures asks { OnOk result (store_asks store.new ≡ asked_by act.now (store_asks store.old)) }
     ensures failure { IfOk result (λ failure. failure ≡ act_failure (blobs_of store.old) act.now) }
     ensures part { IfOk result (λ failure. part_of region.new ≡ (if is_some failure then part_of region.old
         else carry_one (supplied (blobs_of store.old) method.now) act.now (part_of region.old))) }
@@ -179,7 +179,7 @@ fn carry_out(
     requires supplied { list_all (is_supplied method.now) acts.now ≡ true }
     ensures place { region.new.place ≡ region.old.place }
     ensures blobs { blobs_of store.new ≡ blobs_of store.old }
-    ensures asks { OnOk result (store.new.asks ≡ asks_after (blobs_of store.old) acts.now store.old.asks) }
+    ensures asks { OnOk result (store_asks store.new ≡ asks_after (blobs_of store.old) acts.now (store_asks store.old)) }
     ensures outcome { IfOk result (λ outcome. outcome ≡ outcome_of (blobs_of store.old) acts.now) }
     ensures part { OnOk result (part_of region.new ≡ carry (supplied (blobs_of store.old) method.now)
         (acts_done (blobs_of store.old) acts.now) (part_of region.old)) }
@@ -194,7 +194,7 @@ fn carry_out(
     Ok(Outcome::Made)
 }
 
-/// Makes the disk hold a tree at a path, and nothing else at or below it, with the bytes of a row or of the store. Where
+/// Makes the disk have a tree at a path, and nothing else at or below it, with the bytes of a row or of the store. Where
 /// a file has no right bytes, what was put before stays.
 pub fn make_on_disk(
     alloc: Global,
@@ -204,16 +204,16 @@ pub fn make_on_disk(
     tree: &Tree,
     method: &Method,
 ) -> Result<Outcome, Memory>
-    requires free { disk.old.loans.items ≡ [] }
-    requires places { list_all (stands_at_path path.now) tree.now ≡ true }
+    requires free { disk_loans disk.old ≡ [] }
+    requires places { list_all (is_placed path.now) tree.now ≡ true }
     requires bytes { IsAtHand method.now tree.now }
-    ensures free { disk.new.loans.items ≡ [] }
+    ensures free { disk_loans disk.new ≡ [] }
     ensures blobs { blobs_of store.new ≡ blobs_of store.old }
-    ensures asks { OnOk result (store.new.asks ≡ asks_after (blobs_of store.old) (make_acts (is_write method.now) tree.now) store.old.asks) }
+    ensures asks { OnOk result (store_asks store.new ≡ asks_after (blobs_of store.old) (make_acts (is_write method.now) tree.now) (store_asks store.old)) }
     ensures outcome { IfOk result (λ outcome. outcome ≡ outcome_of (blobs_of store.old) (make_acts (is_write method.now) tree.now)) }
     ensures shown { OnOk result (shown_by (disk_content disk.new) ≡ with_nodes path.now
         (left_by (acts_done (blobs_of store.old) (make_acts (is_write method.now) tree.now)) no_nodes) (shown_by (disk_content disk.old))) }
-    ensures holds { IfOk result (λ ended. ended ≡ outcome.Made → Holds (below path.now (disk_content disk.new)) tree.now) }
+    ensures holds { IfOk result (λ ended. ended ≡ outcome.Made → HasTree (below path.now (disk_content disk.new)) tree.now) }
     ensures synced { IfOk result (λ ended. ended ≡ outcome.Made → (place : List (List ℕ)) → is_prefix path.now place ≡ true → disk_rough disk.new place ≡ false) }
     ensures elsewhere { OnOk result ((place : List (List ℕ)) → is_prefix path.now place ≡ false → disk_rough disk.new place ≡ disk_rough disk.old place) }
 {

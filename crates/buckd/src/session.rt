@@ -54,7 +54,7 @@ impl Session {
         }
     }
 
-    // TellsLine the line that is kept.
+    // Serves the line that is kept.
     fn serve_line(&mut self, alloc: Global) -> Result<bool, Memory>
         requires { IsSound self.old.daemon }
         ensures { IfOk result (λ ended. TellsLine self.old.partial.items self.old.daemon self.old.gathered.items self.new ended) }
@@ -66,7 +66,7 @@ impl Session {
         Ok(ended)
     }
 
-    // TellsLine the line whose last bytes these are.
+    // Serves the line whose last bytes these are.
     fn serve_with(&mut self, alloc: Global, bytes: &[u8]) -> Result<bool, Memory>
         requires { IsSound self.old.daemon }
         ensures { IfOk result (λ ended. TellsLine (self.old.partial.items ++ take (kept - length self.old.partial.items) bytes.now) self.old.daemon self.old.gathered.items self.new ended) }
@@ -75,7 +75,7 @@ impl Session {
         self.serve_line(alloc)
     }
 
-    // TellsLine a line that a newline ends, whose last bytes these are.
+    // Serves a line that a newline ends, whose last bytes these are.
     fn end_line<T: Sink>(&mut self, alloc: Global, bytes: &[u8], output: &mut T) -> Fed
         requires sound { IsSound self.old.daemon }
         requires line { IsLine bytes.now }
@@ -130,7 +130,7 @@ impl Session {
         self.hold(rest)
     }
 
-    /// TellsLine the last line, which no newline ends.
+    /// Serves the last line, which no newline ends.
     pub fn feed_last(&mut self, alloc: Global) -> Fed
         requires { IsSound self.old.daemon }
         ensures fed { (read : List ℕ) (before out : Option (List ℕ)) → Stands read before out self.old → FeedsLast (lines_of read) before out self.new result }

@@ -3,7 +3,7 @@ ghost use Rattle.std.specs.Prelude.{◌≡◌, false, count_by, map, IfSome, OnO
 ghost use Rattle.std.specs.Option.{option_and_then, option_copied};
 ghost use Rattle.std.specs.List.{list_any};
 ghost use Rattle.mat_model.specs.Tickets.{answered_by, is_hold, is_open, waits_for, with_hold};
-ghost use Rattle.mat_model.specs.Yard.{first_make, make_of, task_of};
+ghost use Rattle.mat_model.specs.WorkState.{first_make, make_of, task_of};
 ghost use Rattle.buckd.specs.MakeAnswers.{answer_of, tickets_answered};
 ghost use Rattle.buckd.specs.Run.{idle};
 

@@ -1,5 +1,5 @@
 -- A store in memory, as contracts see it.
-use Rattle.std.specs.Prelude.{◌≡◌, ℕ, false, List, Some}
+use Rattle.std.specs.Prelude.{◌≡◌, ℕ, Bool, false, List, Some}
 use Rattle.std.specs.BTreeMap.{get}
 use Rattle.std.specs.Ordering.{is_eq}
 use Rattle.mat_digest.specs.declared.digest.Digest.{Digest}
@@ -10,6 +10,19 @@ use Rattle.fetch_port.specs.Keys.{key_cmp, key_of}
 -- the bytes that a store in memory holds under a digest
 abbrev pub blobs_of : MemStore → Blobs
 blobs_of store digest = get key_cmp store.blobs (key_of digest)
+
+-- what a store in memory counts: its fetches, its calls, the faults among them, and whether the next one is to fail
+abbrev pub store_asks : MemStore → ℕ
+store_asks store = store.asks
+
+abbrev pub store_calls : MemStore → ℕ
+store_calls store = store.calls
+
+abbrev pub store_faults : MemStore → ℕ
+store_faults store = store.faults
+
+abbrev pub is_store_armed : MemStore → Bool
+is_store_armed store = store.armed
 
 -- these bytes were put under a digest, and what stands under each other digest stayed
 pub record HasPut (digest : Digest) (bytes : List ℕ) (old new : MemStore) : Type 0 where

@@ -4,7 +4,7 @@ ghost use Rattle.std.specs.Ordering.{is_eq};
 ghost use Rattle.std.specs.BTreeMap.{get};
 ghost use Rattle.mat_digest.specs.Digests.{digest_of};
 ghost use Rattle.mat_digest.specs.declared.digest.Digest.{Digest as TheDigest};
-ghost use Rattle.mat_io.specs.Causes.{HasCause, counted};
+ghost use Rattle.mat_io.specs.Causes.{HasCause, risen};
 ghost use Rattle.fetch_port.specs.Fetches.{Fetches, fetch_failed, held_at};
 ghost use Rattle.fetch_port.specs.Keys.{key_cmp, key_of};
 
@@ -29,15 +29,15 @@ pub struct MemStore {
 }
 
 impl MemStore {
-    ghost use Rattle.fetch_port.specs.Memory.{HasPut, IsUncalled, blobs_of};
+    ghost use Rattle.fetch_port.specs.Memory.{HasPut, IsUncalled, blobs_of, is_store_armed, store_asks, store_calls, store_faults};
 
     /// A store that holds nothing. It takes no memory yet.
     pub fn new(alloc: Global) -> MemStore
         ensures holds { (digest : TheDigest) → blobs_of result digest ≡ None }
-        ensures asks { result.asks ≡ 0 }
-        ensures faults { result.faults ≡ 0 }
-        ensures calls { result.calls ≡ 0 }
-        ensures armed { result.armed ≡ false }
+        ensures asks { store_asks result ≡ 0 }
+        ensures faults { store_faults result ≡ 0 }
+        ensures calls { store_calls result ≡ 0 }
+        ensures armed { is_store_armed result ≡ false }
     {
         MemStore {
             blobs: BTreeMap::new(alloc),
@@ -102,22 +102,22 @@ fn front(alloc: Global, bytes: &[u8], size: u64) -> Fetched
 }
 
 impl Fetcher for MemStore {
-    ghost use Rattle.fetch_port.specs.Memory.{blobs_of};
+    ghost use Rattle.fetch_port.specs.Memory.{blobs_of, is_store_armed, store_asks, store_calls, store_faults};
 
     ghost holds = { λ store. Some (blobs_of store) };
 
-    ghost fetches = { λ store. store.asks };
+    ghost fetches = { store_asks };
 
-    ghost fault_count = { λ store. store.faults };
+    ghost fault_count = { store_faults };
 
     fn fetch(&mut self, digest: &Digest) -> Fetched
         ensures got { Fetches (held_at (Some (blobs_of self.old)) digest.now) digest.now.size result }
         ensures same { Some (blobs_of self.new) ≡ Some (blobs_of self.old) }
-        ensures asks { self.new.asks ≡ counted self.old.asks }
-        ensures cause { HasCause self.old.faults self.new.faults (fetch_failed result) }
-        ensures calls { self.new.calls ≡ counted self.old.calls }
-        ensures armed { fetch_failed result ≡ self.old.armed }
-        ensures disarmed { self.new.armed ≡ false }
+        ensures asks { store_asks self.new ≡ risen (store_asks self.old) }
+        ensures cause { HasCause (store_faults self.old) (store_faults self.new) (fetch_failed result) }
+        ensures calls { store_calls self.new ≡ risen (store_calls self.old) }
+        ensures armed { fetch_failed result ≡ is_store_armed self.old }
+        ensures disarmed { is_store_armed self.new ≡ false }
     {
         self.asks = self.asks.saturating_add(1);
         self.calls = self.calls.saturating_add(1);
@@ -139,18 +139,18 @@ impl Fetcher for MemStore {
 }
 
 impl Arm for MemStore {
-    ghost use Rattle.fetch_port.specs.Memory.{blobs_of};
+    ghost use Rattle.fetch_port.specs.Memory.{blobs_of, is_store_armed, store_asks, store_calls, store_faults};
 
-    ghost armed = { λ store. store.armed };
+    ghost armed = { is_store_armed };
 
-    ghost calls_made = { λ store. store.calls };
+    ghost calls_made = { store_calls };
 
     fn arm(&mut self)
-        ensures armed { self.new.armed ≡ true }
-        ensures calls { self.new.calls ≡ self.old.calls }
+        ensures armed { is_store_armed self.new ≡ true }
+        ensures calls { store_calls self.new ≡ store_calls self.old }
         ensures holds { (digest : TheDigest) → blobs_of self.new digest ≡ blobs_of self.old digest }
-        ensures asks { self.new.asks ≡ self.old.asks }
-        ensures faults { self.new.faults ≡ self.old.faults }
+        ensures asks { store_asks self.new ≡ store_asks self.old }
+        ensures faults { store_faults self.new ≡ store_faults self.old }
     {
         self.armed = true;
     }

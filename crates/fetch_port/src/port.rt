@@ -1,5 +1,5 @@
 ghost use Rattle.std.specs.Prelude.{◌≡◌, ℕ, Option};
-ghost use Rattle.mat_io.specs.Causes.{HasCause, counted};
+ghost use Rattle.mat_io.specs.Causes.{HasCause, risen};
 ghost use Rattle.fetch_port.specs.Fetches.{Blobs, Fetches, fetch_failed, held_at};
 
 use crate::fetched::Fetched;
@@ -21,7 +21,7 @@ pub trait Fetcher {
     fn fetch(&mut self, digest: &Digest) -> Fetched
         ensures got { Fetches (held_at (holds self.old) digest.now) digest.now.size result }
         ensures same { holds self.new ≡ holds self.old }
-        ensures asks { fetches self.new ≡ counted (fetches self.old) }
+        ensures asks { fetches self.new ≡ risen (fetches self.old) }
         ensures cause { HasCause (fault_count self.old) (fault_count self.new) (fetch_failed result) };
 
     /// How many fetches there were. It takes no memory.

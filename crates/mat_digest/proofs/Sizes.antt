@@ -11,14 +11,15 @@ use Rattle.std.proofs.lemmas.Bool.Decides.{nat_tests}
 use Rattle.std.proofs.lemmas.Fmt.{IsAscii-from_digits, decimal-digits_value, decimal_nonempty, digits_decimal, digits_value-decimal, first_decimal, decimal_digit}
 use Rattle.std.proofs.lemmas.Str.Parse.{IsNumeralModel, numerals_by_value, parse_digits}
 use Rattle.std.proofs.lemmas.Str.{IsUtf8-from_ascii}
-use Rattle.mat_digest.specs.Digests.{number_written, size_written}
+use Rattle.mat_digest.specs.Digests.{has_leading_zero, number_written, size_written}
 
--- the two words for digits and their value
-abbrev are_digits : List ℕ → Type 0
-are_digits ds = list_all is_ascii_digit ds ≡ true
+-- each byte is a decimal digit
+abbrev pub AreDigits : List ℕ → Type 0
+AreDigits ds = list_all is_ascii_digit ds ≡ true
 
-digits_model : IsNumeralModel are_digits (digits_value 10)
-digits_model = numerals_by_value are_digits (search rules)
+-- decimal digits and their value, as the library reads and writes numbers
+pub digits_model : IsNumeralModel AreDigits (digits_value 10)
+digits_model = numerals_by_value AreDigits (search rules)
 
 -- what `parse` answers is the number, if its bounds hold
 parsed_number : {E : Type 0} (r : Result ℕ E) (n v : ℕ) → OkIff r ((0 < n) × (v < 2 ^ 64)) v
@@ -41,7 +42,7 @@ one_digit : (n : ℕ) → n < 10 → nat_lt 1 (length (decimal n)) ≡ false
 one_digit n h = rw (decimal_digit n h) refl
 
 -- `decimal` writes no zero before another digit
-no_leading_zero : (n : ℕ) → n < 2 ^ 64 → (nat_lt 1 (length (decimal n)) && slice_index (decimal n) 0 == 48) ≡ false
+pub no_leading_zero : (n : ℕ) → n < 2 ^ 64 → has_leading_zero (decimal n) ≡ false
 no_leading_zero n h =
     elim (cases_lt 0 n) [
       | inl above ↦

@@ -52,10 +52,14 @@ abbrev pub number_written : List ℕ → Option ℕ
 number_written digits =
     if nat_lt 0 (length digits) && nat_lt (digits_value 10 digits) (2 ^ 64) then Some (digits_value 10 digits) else None
 
+-- whether a text begins with a zero before another byte
+abbrev pub has_leading_zero : List ℕ → Bool
+has_leading_zero text = nat_lt 1 (length text) && slice_index text 0 == 48
+
 -- the size that a text writes in decimal digits with no leading zero
 abbrev pub size_written : List ℕ → Option ℕ
 size_written text =
-    if nat_lt 1 (length text) && slice_index text 0 == 48 then None
+    if has_leading_zero text then None
     else if list_all is_ascii_digit text then number_written text
     else None
 

@@ -3,7 +3,7 @@ ghost use Rattle.std.specs.Prelude.{◌≡◌, ◌≤◌, ◌==◌, ◌&&◌, tr
 ghost use Rattle.std.specs.Char.{is_ascii_digit};
 ghost use Rattle.std.specs.List.{list_all};
 ghost use Rattle.hex.specs.Hex.{IsBytes};
-ghost use Rattle.mat_digest.specs.Digests.{IsDigest, digest_text, hash_end, hash_spelled, is_lower_digit, number_written, read_digest, size_written, with_size};
+ghost use Rattle.mat_digest.specs.Digests.{IsDigest, digest_text, has_leading_zero, hash_end, hash_spelled, is_lower_digit, number_written, read_digest, size_written, with_size};
 
 use crate::digest::{Digest, DigestRefusal};
 use hex::FromHex;
@@ -81,8 +81,8 @@ fn tell_bytes(bytes: &[u8])
     let _len = bytes.len();
 }
 
-// Whether `byte` is `0` to `9` or `a` to `f`.
-fn is_lower_digit(byte: u8) -> bool
+/// Whether a byte is `0` to `9` or `a` to `f`. Takes no memory.
+pub fn is_lower_digit(byte: u8) -> bool
     ensures { result ≡ is_lower_digit byte }
 {
     matches!(byte, b'0'..=b'9' | b'a'..=b'f')
@@ -117,15 +117,15 @@ fn has_colon(text: &[u8]) -> bool
     text.len() > 64 && text[64] == b':'
 }
 
-// Whether `digits` begins with a zero before another byte.
-fn has_leading_zero(digits: &[u8]) -> bool
-    ensures { result ≡ (nat_lt 1 (length digits.now) && slice_index digits.now 0 == 48) }
+/// Whether a text begins with a zero before another byte. Takes no memory.
+pub fn has_leading_zero(digits: &[u8]) -> bool
+    ensures { result ≡ has_leading_zero digits.now }
 {
     digits.len() > 1 && digits[0] == b'0'
 }
 
-// Whether each byte is a decimal digit.
-fn are_digits(bytes: &[u8]) -> bool
+/// Whether each byte is a decimal digit. Takes no memory.
+pub fn are_digits(bytes: &[u8]) -> bool
     ensures { result ≡ list_all is_ascii_digit bytes.now }
 {
     bytes.iter().all(|byte| byte.is_ascii_digit())

@@ -1,7 +1,7 @@
 -- Sources and sinks in memory, of which chosen calls fail.
 use Rattle.std.specs.Prelude.{ℕ, ◌==◌, min, Bool, if◌then◌else◌, List, ◌++◌, length, take, drop}
 use Rattle.std.specs.List.{list_any}
-use Rattle.mat_io.specs.Causes.{counted, faults_after}
+use Rattle.mat_io.specs.Causes.{faults_after, risen}
 use Rattle.mat_io.specs.declared.answer.Got.{Got}
 use Rattle.mat_io.specs.declared.answer.Got.TheVariants as got
 use Rattle.mat_io.specs.declared.answer.Put.{Put}
@@ -36,7 +36,7 @@ abbrev pub after_read : Feed → ℕ → Feed
 after_read s room = record {
   left = if is_failing s.fails s.calls then s.left else drop room s.left;
   fails = s.fails;
-  calls = counted s.calls;
+  calls = risen s.calls;
   faults = faults_after (is_failing s.fails s.calls) s.faults;
 }
 
@@ -58,6 +58,6 @@ abbrev pub after_write : Drain → List ℕ → Put → Drain
 after_write s bytes answer = record {
   out = out_after s.out bytes answer;
   fails = s.fails;
-  calls = counted s.calls;
+  calls = risen s.calls;
   faults = faults_after (is_failing s.fails s.calls) s.faults;
 }

@@ -27,9 +27,11 @@ impl<W: Write> StdSink<W> {
 }
 
 impl<W: Write> Sink for StdSink<W> {
-    ghost out = { λ s. W.contents s.inner };
+    ghost use Rattle.mat_io.specs.Adapters.{sink_faults, sink_writer};
 
-    ghost faults = { λ s. s.faults };
+    ghost out = { λ s. W.contents (sink_writer s) };
+
+    ghost faults = { sink_faults };
 
     /// Writes until the writer has taken all bytes. It fails, and counts one fault, where a write fails
     /// or takes nothing; a write that is interrupted is made again, up to a thousand times. Where the

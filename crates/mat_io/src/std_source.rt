@@ -27,9 +27,11 @@ impl<R: Read> StdSource<R> {
 }
 
 impl<R: Read> Source for StdSource<R> {
-    ghost left = { λ s. R.remaining s.inner };
+    ghost use Rattle.mat_io.specs.Adapters.{source_faults, source_reader};
 
-    ghost faults = { λ s. s.faults };
+    ghost left = { λ s. R.remaining (source_reader s) };
+
+    ghost faults = { source_faults };
 
     /// Takes what one read of the reader gives. It fails, and counts one fault, where that read fails; a
     /// read that is interrupted is made again, up to a thousand times.

@@ -8,8 +8,7 @@ use Rattle.mat_model.specs.declared.book.Hold.{Hold}
 use Rattle.mat_model.specs.declared.book.Row.{Row}
 use Rattle.mat_model.specs.declared.book.Ticket.{Ticket}
 use Rattle.mat_model.specs.declared.book.Waiter.{Waiter}
-use Rattle.mat_model.specs.Gate.{is_command, is_state}
-use Rattle.mat_model.specs.Laws.{is_nobody}
+use Rattle.mat_model.specs.Gate.{is_command, is_state, is_nobody}
 use Rattle.mat_model.specs.Rows.{are_apart, cover, covers}
 use Rattle.mat_model.specs.Tickets.{is_open}
 

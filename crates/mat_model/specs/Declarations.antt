@@ -6,7 +6,7 @@ use Rattle.mat_path.specs.Names.{is_path}
 use Rattle.mat_tree.specs.declared.flat.Flat.{Flat}
 use Rattle.mat_tree.specs.declared.sum.Sum.{Sum}
 use Rattle.mat_tree.specs.Sums.{sum_of}
-use Rattle.mat_tree.specs.Trees.{file_tree, same_tree, sub_at}
+use Rattle.mat_tree.specs.Trees.{file_tree, is_placed, same_tree, sub_at}
 use Rattle.mat_model.specs.declared.answers.Reply.TheVariants as reply
 use Rattle.mat_model.specs.declared.book.Book.{Book}
 use Rattle.mat_model.specs.declared.book.Row.{Row}
@@ -55,10 +55,6 @@ write number command path sum book = if_live command book (declare number comman
 abbrev pub declare_tree : ℕ → ℕ → List (List ℕ) → List Flat → Book → Served
 declare_tree number command path tree book = if_live command book (declare number command path tree book)
 
--- whether a node of a tree at a path stands at a path
-abbrev pub stands_at_path : List (List ℕ) → Flat → Bool
-stands_at_path path node = is_path (path ++ node.rel)
-
 -- the tree that a row has at a path below it, if a node stands there that is no link
 abbrev pub tree_at : List (List ℕ) → Row → Option (List Flat)
 tree_at path row = sub_at row.tree (drop (length row.path) path)
@@ -71,7 +67,7 @@ declared_at rows path = option_and_then (tree_at path) (cover rows path)
 abbrev pub copy_tree : ℕ → ℕ → List (List ℕ) → Book → Option (List Flat) → Served
 copy_tree number command path book None = record { reply = reply.NoSource; book = book }
 copy_tree number command path book (Some tree) =
-    if list_all (stands_at_path path) tree then declare number command path tree book
+    if list_all (is_placed path) tree then declare number command path tree book
     else record { reply = reply.TooLong; book = book }
 
 -- what is declared at a source is declared at a path

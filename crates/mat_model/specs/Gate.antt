@@ -1,5 +1,5 @@
 -- The gate: which commands are live, and who waits.
-use Rattle.std.specs.Prelude.{ℕ, ◌==◌, nat_lt, ◌+◌, ◌&&◌, ◌||◌, Bool, true, not, if◌then◌else◌, List, [], ◌∷◌, ◌++◌, length, filter, Option, Some, None}
+use Rattle.std.specs.Prelude.{ℕ, ◌==◌, nat_lt, ◌+◌, ◌&&◌, ◌||◌, Bool, true, false, true, not, if◌then◌else◌, List, [], ◌∷◌, ◌++◌, length, filter, Option, Some, None}
 use Rattle.std.specs.List.{list_any}
 use Rattle.mat_model.specs.declared.book.Book.{Book}
 use Rattle.mat_model.specs.declared.book.Waiter.{Waiter}
@@ -102,3 +102,8 @@ depart command book = admit (departed command book).waiting (departed command bo
 -- a request of a live command is served so, and that of another one is refused
 abbrev pub if_live : ℕ → Book → Served → Served
 if_live command book served = if is_live command book then served else record { reply = reply.NotLive; book = book }
+
+-- whether a list of commands is empty
+abbrev pub is_nobody : List ℕ → Bool
+is_nobody [] = true
+is_nobody (command ∷ commands) = false

@@ -22,9 +22,9 @@ use Rattle.mat_model.specs.declared.requests.Asked.TheVariants as asked
 use Rattle.mat_model.specs.Declarations.{declared_at}
 use Rattle.mat_model.specs.Gate.{Served}
 use Rattle.mat_model.specs.Kept.{KeptRow, due, kept_asked, kept_begun, kept_done, kept_row, may_fail, overlaps_kept}
-use Rattle.mat_model.specs.Requests.{Aside, at_moment, serve}
+use Rattle.mat_model.specs.Requests.{RequestContext, at_moment, serve}
 use Rattle.mat_model.specs.Work.{finish, refuse}
-use Rattle.mat_model.specs.Yard.{Job, Yard, ended, first_task, idle_yard, path_of_task, refused, running, started, strays, yard_asked}
+use Rattle.mat_model.specs.WorkState.{Job, WorkState, ended, first_task, idle_work, path_of_task, refused, running, started, strays, work_asked}
 
 -- what a daemon begins with: a book, whose rows are the stored ones, and the strays that the disk has
 pub record Opening : Type 0 where
@@ -35,7 +35,7 @@ pub record Opening : Type 0 where
 pub record Point : Type 0 where
   pub history : List Entry
   pub book : Book
-  pub yard : Yard
+  pub work : WorkState
   pub kept : List KeptRow
   pub nodes : ℕ
 
@@ -44,7 +44,7 @@ abbrev pub opened : Opening → Point
 opened opening = record {
   history = [];
   book = opening.book;
-  yard = idle_yard opening.strays;
+  work = idle_work opening.strays;
   kept = map kept_row opening.book.rows;
   nodes = 0;
 }
@@ -54,8 +54,8 @@ abbrev pub next_number : Point → ℕ
 next_number point = point.book.first + length point.history
 
 -- what a request's answer takes from beside the book
-abbrev pub aside : Point → Aside
-aside point = record { strays = strays point.yard; due = due point.book point.kept }
+abbrev pub request_context : Point → RequestContext
+request_context point = record { strays = strays point.work; due = due point.book point.kept }
 
 -- ---- replies
 
@@ -74,7 +74,7 @@ is_store_fault _ = false
 abbrev pub answer_asked : Point → ℕ → Asked → Reply → Served
 answer_asked point moment request said =
     if may_fail request point.book point.kept && is_store_fault said then record { reply = said; book = at_moment moment point.book }
-    else serve (next_number point) moment (aside point) request point.book
+    else serve (next_number point) moment (request_context point) request point.book
 
 -- the note with which a job was refused, if it was
 abbrev pub refusal_note : Reply → Option FaultNote
@@ -107,22 +107,22 @@ answer_done point out said (Some job) = finish (next_number point) job.task out 
 abbrev pub answer : Point → ℕ → Event → Reply → Served
 answer point moment (event.Asked request) said = answer_asked point moment request said
 answer point moment (event.Begin begun) said = answer_begin point begun said
-answer point moment (event.Done job out) said = answer_done point out said (running job point.yard)
+answer point moment (event.Done job out) said = answer_done point out said (running job point.work)
 
 -- ---- what comes of an event
 
 -- the work state after a begin, which may have been refused with a note
-abbrev pub yard_begun : Point → ℕ → Task → Option FaultNote → Yard
-yard_begun point caller begun None = started (next_number point) caller begun point.book.rows point.yard
-yard_begun point caller begun (Some note) = refused begun point.yard
+abbrev pub work_begun : Point → ℕ → Task → Option FaultNote → WorkState
+work_begun point caller begun None = started (next_number point) caller begun point.book.rows point.work
+work_begun point caller begun (Some note) = refused begun point.work
 
 -- the work state after an event of a caller that was served so
-abbrev pub yard_after : Point → ℕ → Event → Served → Yard
-yard_after point caller (event.Asked request) served =
-    yard_asked request served.reply point.book.rows served.book.rows point.yard
-yard_after point caller (event.Begin begun) served = yard_begun point caller begun (refusal_note served.reply)
-yard_after point caller (event.Done job out) served =
-    ended job out served.reply served.book.rows point.yard (running job point.yard)
+abbrev pub work_after : Point → ℕ → Event → Served → WorkState
+work_after point caller (event.Asked request) served =
+    work_asked request served.reply point.book.rows served.book.rows point.work
+work_after point caller (event.Begin begun) served = work_begun point caller begun (refusal_note served.reply)
+work_after point caller (event.Done job out) served =
+    ended job out served.reply served.book.rows point.work (running job point.work)
 
 -- the stored rows after a begin, which may have been refused with a note, and after an end with its reply
 abbrev pub kept_started : Task → Option FaultNote → List KeptRow → List KeptRow
@@ -136,7 +136,7 @@ kept_ended (Some job) served kept = kept_done job.task served.reply served.book.
 abbrev pub kept_after : Point → Event → Served → List KeptRow
 kept_after point (event.Asked request) served = kept_asked request served.reply served.book.rows point.kept
 kept_after point (event.Begin begun) served = kept_started begun (refusal_note served.reply) point.kept
-kept_after point (event.Done job out) served = kept_ended (running job point.yard) served point.kept
+kept_after point (event.Done job out) served = kept_ended (running job point.work) served point.kept
 
 -- how many nodes a tree has, if there is one
 abbrev pub nodes_in : Option (List Flat) → ℕ
@@ -166,7 +166,7 @@ abbrev pub stepped : Point → Entry → Served → Point
 stepped point entry served = record {
   history = point.history ++ entry ∷ [];
   book = served.book;
-  yard = yard_after point entry.by.caller entry.event served;
+  work = work_after point entry.by.caller entry.event served;
   kept = kept_after point entry.event served;
   nodes = point.nodes + nodes_by entry.event served.reply point.book;
 }
@@ -202,12 +202,18 @@ may_end (task.Wipe path) (outcome.Fault note) = true
 may_end (task.Wipe path) outcome.NoMemory = true
 may_end (task.Wipe path) _ = false
 
+-- a job that runs at a point may end so for a caller: it has this number, the caller began it, and its kind of task has this outcome
+pub record IsEndOf (point : Point) (caller number : ℕ) (out : Outcome) : Type 0 where
+  pub job : Job
+  pub runs : running number point.work ≡ Some job
+  pub owned : job.caller ≡ caller
+  pub ends : may_end job.task out ≡ true
+
 -- work comes in order: a begin takes the task that comes first, and a done ends a job that runs, by its own caller and as it may end
 abbrev pub IsInOrder : Point → ℕ → Event → Type 0
 IsInOrder point caller (event.Asked request) = Unit {0}
-IsInOrder point caller (event.Begin begun) = first_task point.yard point.book ≡ Some begun
-IsInOrder point caller (event.Done number out) =
-    (job : Job) × (running number point.yard ≡ Some job) × (job.caller ≡ caller) × (may_end job.task out ≡ true)
+IsInOrder point caller (event.Begin begun) = first_task point.work point.book ≡ Some begun
+IsInOrder point caller (event.Done number out) = IsEndOf point caller number out
 
 -- an entry is legal at a point
 pub record IsLegalEntry (point : Point) (entry : Entry) : Type 0 where

@@ -18,7 +18,7 @@ use Rattle.mat_model.specs.Cleaning.{stale}
 use Rattle.mat_model.specs.Gate.{is_live}
 use Rattle.mat_model.specs.Rows.{comes_before, is_at_path, is_standing}
 use Rattle.mat_model.specs.Work.{is_declared}
-use Rattle.mat_model.specs.Yard.{path_of_task}
+use Rattle.mat_model.specs.WorkState.{path_of_task}
 
 -- a row as it was stored: its path, its tree and its last use then
 pub record KeptRow : Type 0 where

@@ -87,24 +87,24 @@ at_moment moment book = record book { now = max book.now moment }
 
 -- what the answer of a request takes from beside the book: the debris that a clean of all would condemn, in path order, and
 -- how many rows are due to be stored
-pub record Aside : Type 0 where
+pub record RequestContext : Type 0 where
   pub strays : List (List (List ℕ))
   pub due : ℕ
 
 -- a request, at a book's own moment
-abbrev pub serve_now : ℕ → Aside → Asked → Book → Served
-serve_now number aside (asked.Enter command state) book = enter command state book
-serve_now number aside (asked.Leave command) book = leave command book
-serve_now number aside (asked.Write command path sum) book = write number command path sum book
-serve_now number aside (asked.Declare command path tree) book = declare_tree number command path tree book
-serve_now number aside (asked.Copy command path source) book = copy number command path source book
-serve_now number aside (asked.Matches command path sum) book = matches command path sum book
-serve_now number aside (asked.Has command path) book = has command path book
-serve_now number aside (asked.Ensure command path) book = ensure number command path book
-serve_now number aside (asked.Invalidate command path) book = invalidate number command path book
-serve_now number aside (asked.Clean cutoff mode) book = clean number cutoff aside.strays mode book
-serve_now number aside asked.Flush book = record { reply = reply.Flushed aside.due; book = book }
+abbrev pub serve_now : ℕ → RequestContext → Asked → Book → Served
+serve_now number context (asked.Enter command state) book = enter command state book
+serve_now number context (asked.Leave command) book = leave command book
+serve_now number context (asked.Write command path sum) book = write number command path sum book
+serve_now number context (asked.Declare command path tree) book = declare_tree number command path tree book
+serve_now number context (asked.Copy command path source) book = copy number command path source book
+serve_now number context (asked.Matches command path sum) book = matches command path sum book
+serve_now number context (asked.Has command path) book = has command path book
+serve_now number context (asked.Ensure command path) book = ensure number command path book
+serve_now number context (asked.Invalidate command path) book = invalidate number command path book
+serve_now number context (asked.Clean cutoff mode) book = clean number cutoff context.strays mode book
+serve_now number context asked.Flush book = record { reply = reply.Flushed context.due; book = book }
 
 -- a request at a moment
-abbrev pub serve : ℕ → ℕ → Aside → Asked → Book → Served
-serve number moment aside request book = serve_now number aside request (at_moment moment book)
+abbrev pub serve : ℕ → ℕ → RequestContext → Asked → Book → Served
+serve number moment context request book = serve_now number context request (at_moment moment book)

@@ -15,16 +15,16 @@ use Rattle.mat_model.specs.declared.limits.Limits.{Limits}
 use Rattle.mat_model.specs.declared.requests.Asked.{Asked}
 use Rattle.mat_model.specs.declared.requests.Asked.TheVariants as asked
 use Rattle.mat_model.specs.Gate.{Served}
-use Rattle.mat_model.specs.History.{Point, aside, next_number, nodes_of}
+use Rattle.mat_model.specs.History.{Point, request_context, next_number, nodes_of}
 use Rattle.mat_model.specs.Kept.{KeptRow}
 use Rattle.mat_model.specs.Requests.{serve}
 use Rattle.mat_model.specs.Rows.{is_at_path}
 use Rattle.mat_model.specs.Tickets.{is_open}
-use Rattle.mat_model.specs.Yard.{WayOf, is_held_way, way_of, ways_after}
+use Rattle.mat_model.specs.WorkState.{WayOf, is_held_way, way_of, ways_after}
 
 -- how many entries are spent: those that are there, one for each running job, and one for each live or waiting command
 abbrev pub spent : Point → ℕ
-spent point = length point.history + length point.yard.jobs + length point.book.live + length point.book.waiting
+spent point = length point.history + length point.work.jobs + length point.book.live + length point.book.waiting
 
 -- how many entries a request with its reply needs: an enter also that of its leave, and a leave that was granted none, since its enter took it
 abbrev pub entries_for : Asked → Reply → ℕ
@@ -64,7 +64,7 @@ full_table limits point request served =
     if waits_past served.reply then Some limit.Waiting
     else if nat_lt limits.nodes (point.nodes + nodes_of request served.reply point.book) then Some limit.Nodes
     else if nat_lt limits.rows (row_paths served.book point.kept) then Some limit.Rows
-    else if nat_lt limits.held (held_bytes (ways_after request served.reply point.book.rows point.yard.ways) served.book.rows) then Some limit.Held
+    else if nat_lt limits.held (held_bytes (ways_after request served.reply point.book.rows point.work.ways) served.book.rows) then Some limit.Held
     else if nat_lt limits.asked (count_by is_open served.book.tickets) then Some limit.Asked
     else if nat_lt limits.holds (length served.book.holds) then Some limit.Holds
     else None
@@ -79,7 +79,7 @@ full_served limits point request served =
 -- the limit that a request at a moment would pass, if it would pass one
 abbrev pub full_asked : Limits → Point → ℕ → Asked → Option Limit
 full_asked limits point moment request =
-    full_served limits point request (serve (next_number point) moment (aside point) request point.book)
+    full_served limits point request (serve (next_number point) moment (request_context point) request point.book)
 
 -- the limit that an event at a moment would pass: a begin needs room for its end too, and an end has it
 abbrev pub full_event : Limits → Point → ℕ → Event → Option Limit

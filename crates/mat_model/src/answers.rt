@@ -22,7 +22,7 @@ pub struct FaultNote {
 /// What a ticket is answered in the end.
 #[derive(Clone, Copy, Debug, PartialEq, Eq)]
 pub enum Answer {
-    /// The disk holds the tree of the row that was declared under this stamp.
+    /// The disk has the tree of the row that was declared under this stamp.
     Ready { stamp: u64, sum: Sum },
     /// No row covers the asked path any more.
     Undeclared,

@@ -10,7 +10,7 @@ pub struct Row {
     pub sum: Sum,
     /// The history number of the declaration.
     pub stamp: u64,
-    /// Whether the disk holds the tree.
+    /// Whether the disk has the tree.
     pub stands: bool,
     /// The moment of the last use.
     pub last: u64,

@@ -16,7 +16,7 @@ pub enum Task {
 /// How a job ended.
 #[derive(Clone, Copy, Debug, PartialEq, Eq)]
 pub enum Outcome {
-    /// The disk holds the tree.
+    /// The disk has the tree.
     Made,
     /// The disk has nothing there.
     Wiped,

@@ -1,4 +1,10 @@
+pub mod Bools
+pub mod CoveringLemmas
+pub mod CoveringRows
+pub mod Elements
 pub mod JoinLemmas
 pub mod NameLemmas
+pub mod Overlaps
 pub mod PathLemmas
 pub mod ReadLemmas
+pub mod SameNames

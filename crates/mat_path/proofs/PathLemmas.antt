@@ -1,4 +1,5 @@
 -- Lists of names as paths: prefixes, overlap, the order.
+use Rattle.mat_path.proofs.SameNames.{is_prefix-Decides, same_name-refl, same_names-Decides, same_names-eq, same_names-refl}
 use Rattle.std.proofs.Common.{◌≡◌, ◌≢◌, ℕ, Bool, true, false, ◌||◌, ◌&&◌, if◌then◌else◌, ◌⊎◌, inl, inr, List, [], ◌∷◌, ◌++◌, length, drop, Some, None, Decides, Ordering, Less, Equal, Greater, is_eq, refl, sym, ap, ap₂, ◌∙◌, subst, append_assoc, append-nil, drop_at}
 use Rattle.std.specs.Cmp.{IsTotalOrder}
 use Rattle.std.specs.Cmp.Lexicographic.{texts_ties}
@@ -9,35 +10,18 @@ use Rattle.std.proofs.lemmas.Slice.Eq.{slice_eq-Decides, bytes_eq-Decides, start
 use Rattle.mat_path.specs.Names.{same_name, same_names, is_prefix, overlap, rest_below, name_cmp, path_cmp}
 use Rattle.mat_path.specs.Order.{same_names_ties}
 
--- the tests are true exactly of the same names
-same_names_decides : (p q : List (List ℕ)) → Decides (same_names p q) (p ≡ q)
-same_names_decides p q = slice_eq-Decides bytes_eq-Decides p q (same_names p q) refl
-
-pub same_names-eq : (p q : List (List ℕ)) → same_names p q ≡ true → p ≡ q
-same_names-eq p q h = (same_names_decides p q).0 h
-
-pub same_names-refl : (p : List (List ℕ)) → same_names p p ≡ true
-same_names-refl p = (same_names_decides p p).1 refl
-
-pub same_names_false : (p q : List (List ℕ)) → same_names p q ≡ false → p ≢ q
-same_names_false p q h = λ e. both_ways (same_names p q) h ((same_names_decides p q).1 e)
-
--- what a prefix begins, and what begins with it
-prefix_is : (p q : List (List ℕ)) → (is_prefix p q ≡ true → q ≡ p ++ drop (length p) q) × ((rest : List (List ℕ)) → q ≡ p ++ rest → is_prefix p q ≡ true)
-prefix_is p q = starts_is bytes_eq-Decides q p (is_prefix p q) refl
-
 pub prefix_split : (p q : List (List ℕ)) → is_prefix p q ≡ true → q ≡ p ++ drop (length p) q
-prefix_split p q h = (prefix_is p q).0 h
+prefix_split p q h = (is_prefix-Decides p q).0 h
 
 pub prefix-append : (p r : List (List ℕ)) → is_prefix p (p ++ r) ≡ true
-prefix-append p r = (prefix_is p (p ++ r)).1 r refl
+prefix-append p r = (is_prefix-Decides p (p ++ r)).1 r refl
 
 pub prefix-refl : (p : List (List ℕ)) → is_prefix p p ≡ true
-prefix-refl p = (prefix_is p p).1 [] (sym (append-nil p))
+prefix-refl p = (is_prefix-Decides p p).1 [] (sym (append-nil p))
 
 pub prefix-trans : (p q r : List (List ℕ)) → is_prefix p q ≡ true → is_prefix q r ≡ true → is_prefix p r ≡ true
 prefix-trans p q r h k =
-    (prefix_is p r).1 (drop (length p) q ++ drop (length q) r)
+    (is_prefix-Decides p r).1 (drop (length p) q ++ drop (length q) r)
     (prefix_split q r k
     ∙ ap (λ (l : List (List ℕ)). l ++ drop (length q) r) (prefix_split p q h)
     ∙ append_assoc p (drop (length p) q) (drop (length q) r))
@@ -60,8 +44,8 @@ fronts (x ∷ p) (y ∷ q) d r h =
 pub prefix-append_cases : (p q r : List (List ℕ)) → is_prefix p (q ++ r) ≡ true → overlap p q ≡ true
 prefix-append_cases p q r h =
     elim (fronts p q (drop (length p) (q ++ r)) r (sym (prefix_split p (q ++ r) h))) [
-      | inl w ↦ or_left (is_prefix p q) (is_prefix q p) ((prefix_is p q).1 w.0 w.1)
-      | inr w ↦ or_right (is_prefix p q) (is_prefix q p) ((prefix_is q p).1 w.0 w.1)
+      | inl w ↦ or_left (is_prefix p q) (is_prefix q p) ((is_prefix-Decides p q).1 w.0 w.1)
+      | inr w ↦ or_right (is_prefix p q) (is_prefix q p) ((is_prefix-Decides q p).1 w.0 w.1)
     ]
 
 pub overlap_comm : (p q : List (List ℕ)) → overlap p q ≡ overlap q p
@@ -84,12 +68,18 @@ path_cmp_total = lists_total nat_list_cmp_total
 pub path_cmp_equal : (p q : List (List ℕ)) → path_cmp p q ≡ Equal → p ≡ q
 path_cmp_equal p q h = same_names-eq p q (same_names_ties p q ∙ ap is_eq h)
 
-name_itself : (name : List ℕ) → name_cmp name name ≡ Equal
-name_itself name = tied_itself nat_list_cmp_total name
+-- a name is neither before nor after itself
+pub name_cmp-refl : (a : List ℕ) → name_cmp a a ≡ Equal
+name_cmp-refl a = tied_itself nat_list_cmp_total a
 
+-- a path is neither before nor after itself
+pub path_cmp-refl : (p : List (List ℕ)) → path_cmp p p ≡ Equal
+path_cmp-refl p = tied_itself path_cmp_total p
+
+-- what stands before two paths does not change their order
 pub path_cmp-append : (p r s : List (List ℕ)) → path_cmp (p ++ r) (p ++ s) ≡ path_cmp r s
 path_cmp-append [] r s = refl
-path_cmp-append (x ∷ p) r s = ap₂ ordering_then (name_itself x) (path_cmp-append p r s)
+path_cmp-append (x ∷ p) r s = ap₂ ordering_then (name_cmp-refl x) (path_cmp-append p r s)
 
 -- a list of names is not greater than one that it begins
 pub prefix_not_greater : (p q : List (List ℕ)) → is_prefix p q ≡ true → (path_cmp p q ≡ Less) ⊎ (path_cmp p q ≡ Equal)
@@ -108,11 +98,8 @@ less_from Less c h = inl refl
 less_from Equal c h = inr (refl, h)
 less_from Greater c h = absurd cc
 
-same_name_itself : (name : List ℕ) → same_name name name ≡ true
-same_name_itself name = (bytes_eq-Decides name name).1 refl
-
 prefix_cons : (x : List ℕ) (p q : List (List ℕ)) → is_prefix (x ∷ p) (x ∷ q) ≡ is_prefix p q
-prefix_cons x p q = ap (λ (t : Bool). t && is_prefix p q) (same_name_itself x)
+prefix_cons x p q = ap (λ (t : Bool). t && is_prefix p q) (same_name-refl x)
 
 overlap_cons : (x : List ℕ) (p q : List (List ℕ)) → overlap (x ∷ p) (x ∷ q) ≡ overlap p q
 overlap_cons x p q = ap₂ (λ (s t : Bool). s || t) (prefix_cons x p q) (prefix_cons x q p)

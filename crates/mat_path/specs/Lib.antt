@@ -1,4 +1,5 @@
 pub mod formers
+pub mod Covering
 pub mod Faults
 pub mod Names
 pub mod Order

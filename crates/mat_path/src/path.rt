@@ -134,12 +134,19 @@ impl Path {
         name::joined(*self.names.allocator(), self.names.as_slice())
     }
 
+    /// Whether the names of this path and then those of the rel are a path. Takes no memory.
+    pub fn can_join(&self, rel: &Rel) -> bool
+        ensures { result ≡ is_path (self.now ++ rel.now) }
+    {
+        reading::can_join(self.names(), rel.names())
+    }
+
     /// The path of the names of this one and then those of the rel, or `Long` where these are no path.
     pub fn join(&self, rel: &Rel) -> Result<Path, JoinRefusal>
         ensures ok { IfOk result (λ path. path ≡ self.now ++ rel.now) }
         ensures exact { too_long result ≡ not (is_path (self.now ++ rel.now)) }
     {
-        if !reading::can_join(self.names(), rel.names()) {
+        if !self.can_join(rel) {
             return Err(JoinRefusal::Long);
         }
         match name::both(*self.names.allocator(), self.names(), rel.names()) {

@@ -11,10 +11,10 @@ use crate::name::Name;
 use crate::path::PathRefusal;
 use std::alloc::Global;
 
-/// The most bytes of a text.
-pub(crate) const TEXT_BYTES: usize = 1024;
+/// The most bytes of the text of a path or of a target.
+pub const TEXT_BYTES: usize = 1024;
 /// The most names of a path.
-pub(crate) const NAMES: usize = 64;
+pub const NAMES: usize = 64;
 /// The most bytes of a name.
 const NAME_BYTES: usize = 255;
 

@@ -76,12 +76,19 @@ impl Rel {
         Ok(Rel { names })
     }
 
+    /// Whether the names of this rel and then those of the other are a rel. Takes no memory.
+    pub fn can_join(&self, rel: &Rel) -> bool
+        ensures { result ≡ is_rel (self.now ++ rel.now) }
+    {
+        reading::can_join(self.names(), rel.names())
+    }
+
     /// The rel of the names of this one and then those of the other, or `Long` where these are no rel.
     pub fn join(&self, rel: &Rel) -> Result<Rel, JoinRefusal>
         ensures ok { IfOk result (λ joined. joined ≡ self.now ++ rel.now) }
         ensures exact { too_long result ≡ not (is_rel (self.now ++ rel.now)) }
     {
-        if !reading::can_join(self.names(), rel.names()) {
+        if !self.can_join(rel) {
             return Err(JoinRefusal::Long);
         }
         match name::both(*self.names.allocator(), self.names(), rel.names()) {

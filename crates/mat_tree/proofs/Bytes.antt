@@ -1,4 +1,5 @@
 -- The bytes of a node's files.
+use Rattle.std.specs.Cmp.{first_so, second_so}
 use Rattle.std.proofs.Common.{◌≡◌, ◌<◌, ◌≤◌, ◌+◌, ◌*◌, ◌^◌, ℕ, List, [], ◌∷◌, map, length, take, drop, get_or, true, ap, refl, ◌∙◌, sym, arith, zero-add}
 use Rattle.std.proofs.lemmas.List.{take-append-drop}
 use Rattle.std.proofs.lemmas.List.Concat.{flat_map-append}
@@ -13,7 +14,6 @@ use Rattle.mat_tree.specs.Nodes.{at_root, put_in, below_node, below_child, below
 use Rattle.std.specs.List.{list_all}
 use Rattle.mat_tree.specs.Trees.{size_of, bytes_of, is_small, IsTree}
 use Rattle.mat_tree.proofs.Parts.{le_of}
-use Rattle.mat_tree.proofs.Joins.{and_left, and_right}
 use Rattle.mat_tree.proofs.Folds.{below_all_more, below_dir_out}
 
 bytes-put_in : (name : List ℕ) (nodes : List Flat) → bytes_of (map (put_in name) nodes) ≡ bytes_of nodes
@@ -44,8 +44,8 @@ bytes_part cs i =
 small_sum : (xs : List Flat) → list_all is_small xs ≡ true → bytes_of xs ≤ 67108864 * length xs
 small_sum [] e = omega arith
 small_sum (x ∷ xs) e =
-    let first : size_of x ≤ 67108864 = le_of (size_of x) 67108864 (and_left (is_small x) (list_all is_small xs) e) in
-    let rest = small_sum xs (and_right (is_small x) (list_all is_small xs) e) in
+    let first : size_of x ≤ 67108864 = le_of (size_of x) 67108864 (first_so (is_small x) (list_all is_small xs) e) in
+    let rest = small_sum xs (second_so (is_small x) (list_all is_small xs) e) in
     omega (arith, sum_by-cons size_of x xs)
 
 -- the bytes of a tree are less than 2^64

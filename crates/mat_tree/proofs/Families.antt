@@ -1,4 +1,6 @@
 -- The children of a directory, in its flat list: they are its nodes of one name, and below each name stands that child's own list.
+use Rattle.mat_path.proofs.SameNames.{same_name-refl, same_name-sym}
+use Rattle.std.specs.Cmp.{first_so}
 use Rattle.std.proofs.Common.{◌≡◌, ℕ, true, cond, List, [], ◌∷◌, ◌++◌, map, drop, refl, ◌∙◌, sym, ap}
 use Rattle.std.proofs.lemmas.List.{map-append}
 use Rattle.std.proofs.lemmas.List.Elements.{filter-append}
@@ -16,8 +18,8 @@ use Rattle.mat_tree.specs.Sums.{is_child}
 use Rattle.mat_tree.specs.Trees.{is_after, ascends, sub_tree}
 use Rattle.mat_tree.proofs.Ascending.{after_first, ascends_right}
 use Rattle.mat_tree.proofs.Folds.{below_child_out, below_children_out}
-use Rattle.mat_tree.proofs.Joins.{and_left, all_left, all_right}
-use Rattle.mat_tree.proofs.Paths.{apart, same_name_refl, same_name_symm}
+use Rattle.mat_tree.proofs.Joins.{all_left, all_right}
+use Rattle.mat_tree.proofs.Paths.{apart}
 use Rattle.mat_tree.proofs.Subtrees.{child_begins, found_sub, sub_tree_children, sub_tree_root}
 
 -- ---- a node's list is the node, and the lists of its children
@@ -86,9 +88,9 @@ found_more c cs (x ∷ xs) e f =
     let first = ap (list_all (is_after ((out-Child c).name ∷ []))) (sym (child_begins x))
     ∙ all_left (is_after ((out-Child c).name ∷ [])) (below_child x) (below_all xs) e in
     let other = apart (out-Child c).name (out-Child x).name
-    (and_left (is_after ((out-Child c).name ∷ []) (as_flat x))
+    (first_so (is_after ((out-Child c).name ∷ []) (as_flat x))
     (list_all (is_after ((out-Child c).name ∷ [])) (map (put_in (out-Child x).name) (drop 1 (below_node (out-Child x).node)))) first) in (
-      ap (λ b. cond b (Some c) (find (is_named (out-Child x).name) cs)) (same_name_symm (out-Child x).name (out-Child c).name ∙ other) ∙ f.0,
+      ap (λ b. cond b (Some c) (find (is_named (out-Child x).name) cs)) (same_name-sym (out-Child x).name (out-Child c).name ∙ other) ∙ f.0,
       found_more c cs xs (all_right (is_after ((out-Child c).name ∷ [])) (below_child x) (below_all xs) e) f.1,
     )
 
@@ -101,7 +103,7 @@ after_child c cs e =
 pub founds : (cs : List Child) → ascends (below_all cs) ≡ true → IsFound cs cs
 founds [] e = tt
 founds (c ∷ cs) e = (
-  ap (λ b. cond b (Some c) (find (is_named (out-Child c).name) cs)) (same_name_refl (out-Child c).name),
+  ap (λ b. cond b (Some c) (find (is_named (out-Child c).name) cs)) (same_name-refl (out-Child c).name),
   found_more c cs cs (after_child c cs e) (founds cs (ascends_right (below_child c) (below_all cs) e)),
 )
 

@@ -1,4 +1,7 @@
 -- One more node at the end of a list.
+use Rattle.mat_path.proofs.SameNames.{same_name-eq}
+use Rattle.std.proofs.Math.Bool.{and_assoc}
+use Rattle.std.specs.Cmp.{first_so, second_so}
 use Rattle.std.proofs.Common.{◌≡◌, ◌<◌, ◌≤◌, ℕ, suc, zero, Bool, true, false, ◌&&◌, ◌||◌, not, nat_lt, List, [], ◌∷◌, ◌++◌, map, length, take, drop, get_or, refl, ◌∙◌, sym, ap, ◌-◌, arith, append_assoc}
 use Rattle.std.proofs.lemmas.Bool.Decides.{nat_tests}
 use Rattle.std.proofs.lemmas.List.{map-append, take_all}
@@ -13,9 +16,7 @@ use Rattle.mat_tree.specs.declared.node.Children.{Children, out-Children}
 use Rattle.mat_tree.specs.Nodes.{at_root, put_in, below_node, below_child, below_all, what_node}
 use Rattle.mat_tree.specs.Trees.{is_dir, is_root, parent_of, follows, follows_all, is_linked}
 use Rattle.mat_tree.proofs.Folds.{below_all_push, below_child_out, below_dir_out}
-use Rattle.mat_tree.proofs.Paths.{same_name_true}
 use Rattle.mat_tree.proofs.Subtrees.{begins}
-use Rattle.mat_tree.proofs.Joins.{and_left, and_right}
 
 -- ---- where a node follows
 
@@ -35,10 +36,6 @@ follows_all-append rel (x ∷ next ∷ xs) y ys = follows_all-append rel (next �
 
 lt_suc : (m n : ℕ) → nat_lt (suc m) (suc n) ≡ nat_lt m n
 lt_suc m n = grind (arith, nat_tests)
-
-and_assoc : (x y z : Bool) → ((x && y) && z) ≡ (x && (y && z))
-and_assoc true y z = refl
-and_assoc false y z = refl
 
 follows_in : (a b : List ℕ) (more : List (List ℕ)) (n : List ℕ) (x : Flat) → follows (a ∷ b ∷ more) (put_in n x) ≡ (same_name a n && follows (b ∷ more) x)
 follows_in a b more n x =
@@ -93,7 +90,7 @@ grown_grandchild names a b more w list rest pushed c new e f p s n g =
     ∙ ap (λ m. below_all rest ++ map (put_in m) (below_node (out-Child new).node)) n
     ∙ ap (λ t. below_all rest ++ map (put_in name) t) g
     ∙ ap (λ t. below_all rest ++ t) (map-append (put_in name) (below_node (out-Child c).node) last)
-    ∙ ap (λ m. below_all rest ++ (map (put_in name) (below_node (out-Child c).node) ++ (record { rel = m ∷ b ∷ more; what = w } ∷ []))) (sym (same_name_true a name s))
+    ∙ ap (λ m. below_all rest ++ (map (put_in name) (below_node (out-Child c).node) ++ (record { rel = m ∷ b ∷ more; what = w } ∷ []))) (sym (same_name-eq a name s))
     ∙ ap (λ r. below_all rest ++ (map (put_in name) (below_node (out-Child c).node) ++ (record { rel = r; what = w } ∷ []))) (sym e)
     ∙ ap (λ t. below_all rest ++ (t ++ (record { rel = names; what = w } ∷ []))) (sym (below_child_out c))
     ∙ sym (append_assoc (below_all rest) (below_child c) (record { rel = names; what = w } ∷ []))
@@ -117,18 +114,18 @@ below_root x e = by x.rel e
 pub linked_below : (before : Flat) (rest : List Flat) (i : ℕ) (x : Flat) → is_linked before rest ≡ true → i < length rest → x ≡ get_or rest i x → 1 ≤ length x.rel
 linked_below before [] i x e h is = absurd (omega arith)
 linked_below before (y ∷ ys) zero x e h is =
-    let told = and_left (not (is_root y)) (follows y.rel before) (and_left (not (is_root y) && follows y.rel before) (is_linked y ys) e) in
+    let told = first_so (not (is_root y)) (follows y.rel before) (first_so (not (is_root y) && follows y.rel before) (is_linked y ys) e) in
     below_root x (ap (λ z. not (is_root z)) is ∙ told)
 linked_below before (y ∷ ys) (suc i) x e h is =
-    linked_below y ys i x (and_right (not (is_root y) && follows y.rel before) (is_linked y ys) e) (omega arith) is
+    linked_below y ys i x (second_so (not (is_root y) && follows y.rel before) (is_linked y ys) e) (omega arith) is
 
 pub linked_at : (before : Flat) (rest : List Flat) (i : ℕ) (x : Flat) → is_linked before rest ≡ true → i < length rest → x ≡ get_or rest i x
     → follows_all x.rel (before ∷ take i rest) ≡ true
 linked_at before [] i x e h is = absurd (omega arith)
 linked_at before (y ∷ ys) zero x e h is =
-    ap (λ z. follows z.rel before) is ∙ and_right (not (is_root y)) (follows y.rel before) (and_left (not (is_root y) && follows y.rel before) (is_linked y ys) e)
+    ap (λ z. follows z.rel before) is ∙ second_so (not (is_root y)) (follows y.rel before) (first_so (not (is_root y) && follows y.rel before) (is_linked y ys) e)
 linked_at before (y ∷ ys) (suc i) x e h is =
-    linked_at y ys i x (and_right (not (is_root y) && follows y.rel before) (is_linked y ys) e) (omega arith) is
+    linked_at y ys i x (second_so (not (is_root y) && follows y.rel before) (is_linked y ys) e) (omega arith) is
 
 -- ---- names from their first two
 
@@ -153,7 +150,7 @@ pub follows_more : (names : List (List ℕ)) (list rest : List Child) (c : Child
     → follows_all (take (length names - 1) (drop 1 names)) (below_node (out-Child c).node) ≡ true
 follows_more names list rest c h f told =
     ap (λ n. follows_all n (below_node (out-Child c).node)) (more_names names h)
-    ∙ and_right (same_name (get_or names 0 []) (out-Child c).name) (follows_all (get_or names 1 [] ∷ drop 2 names) (below_node (out-Child c).node))
+    ∙ second_so (same_name (get_or names 0 []) (out-Child c).name) (follows_all (get_or names 1 [] ∷ drop 2 names) (below_node (out-Child c).node))
     (follows_child names (get_or names 0 []) (get_or names 1 []) (drop 2 names) list rest c (two_names names h) f told)
 
 pub grown_more : (names : List (List ℕ)) (w : What) (list rest pushed : List Child) (c new : Child) → 2 ≤ length names
@@ -163,7 +160,7 @@ pub grown_more : (names : List (List ℕ)) (w : What) (list rest pushed : List C
     → below_all pushed ≡ below_all list ++ (record { rel = names; what = w } ∷ [])
 grown_more names w list rest pushed c new h f told p n g =
     grown_grandchild names (get_or names 0 []) (get_or names 1 []) (drop 2 names) w list rest pushed c new (two_names names h) f p
-    (and_left (same_name (get_or names 0 []) (out-Child c).name) (follows_all (get_or names 1 [] ∷ drop 2 names) (below_node (out-Child c).node))
+    (first_so (same_name (get_or names 0 []) (out-Child c).name) (follows_all (get_or names 1 [] ∷ drop 2 names) (below_node (out-Child c).node))
     (follows_child names (get_or names 0 []) (get_or names 1 []) (drop 2 names) list rest c (two_names names h) f told))
     n
     (g ∙ ap (λ r. below_node (out-Child c).node ++ (record { rel = r; what = w } ∷ [])) (more_names names h))

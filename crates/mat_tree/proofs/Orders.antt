@@ -1,4 +1,5 @@
 -- Order, from a directory down to its children's children.
+use Rattle.std.specs.Cmp.{second_so}
 use Rattle.std.proofs.Common.{◌≡◌, ◌<◌, ◌+◌, ℕ, true, List, ◌++◌, length, take, drop, get_or, ◌∙◌, sym, ap, arith}
 use Rattle.std.specs.List.{list_all}
 use Rattle.mat_tree.specs.declared.flat.What.TheVariants as what
@@ -10,13 +11,12 @@ use Rattle.mat_tree.specs.Nodes.{at_root, below_node, below_child, below_all}
 use Rattle.mat_tree.specs.Trees.{is_after, ascends}
 use Rattle.mat_tree.proofs.Ascending.{ascends_left, ascends_right, ascends_in}
 use Rattle.mat_tree.proofs.Folds.{below_child_out, below_dir_out, below_all_around, child_length}
-use Rattle.mat_tree.proofs.Joins.{and_right}
 
 -- the children of a directory ascend
 pub dir_order : (n : Node) (cs : Children) (list : List Child) → n ≡ variant.Dir cs → list ≡ (out-Children cs).list → ascends (below_node n) ≡ true
     → ascends (below_all list) ≡ true
 dir_order n cs list e f up =
-    and_right (list_all (is_after (at_root what.Dir).rel) (below_all list)) (ascends (below_all list)) (ap ascends (sym (below_dir_out n cs list e f)) ∙ up)
+    second_so (list_all (is_after (at_root what.Dir).rel) (below_all list)) (ascends (below_all list)) (ap ascends (sym (below_dir_out n cs list e f)) ∙ up)
 
 -- what is below a child ascends from there
 pub child_order : (c : Child) → ascends (below_child c) ≡ true → ascends (below_node (out-Child c).node) ≡ true

@@ -1,4 +1,8 @@
 -- When two lists of nodes are the same.
+use Rattle.mat_path.proofs.SameNames.{same_names-eq}
+use Rattle.std.proofs.Math.Bool.{and_assoc}
+use Rattle.std.proofs.lemmas.Bool.{and_from, not-true}
+use Rattle.std.specs.Cmp.{first_so, second_so}
 use Rattle.std.proofs.Common.{◌≡◌, ◌≢◌, ◌<◌, ◌≤◌, ◌+◌, ℕ, Bool, true, false, ◌&&◌, not, List, [], ◌∷◌, ◌++◌, map, length, drop, get_or, refl, ◌∙◌, sym, ap}
 use Rattle.std.specs.List.{list_all}
 use Rattle.std.specs.Cmp.Lexicographic.{pointwise, unequal}
@@ -15,9 +19,8 @@ use Rattle.mat_tree.specs.declared.node.Children.{Children, out-Children}
 use Rattle.mat_tree.specs.Nodes.{at_root, put_in, node_step, child_step, children_step, below_node, below_child, below_children, below_all, what_node}
 use Rattle.mat_tree.specs.Trees.{is_root, same_what, same_flat, same_tree}
 use Rattle.mat_tree.proofs.Folds.{below_children_out, below_child_out, below_dir_out}
-use Rattle.mat_tree.proofs.Paths.{same_names_true}
 use Rattle.mat_tree.proofs.Subtrees.{begins, child_begins}
-use Rattle.mat_tree.proofs.Joins.{and_left, and_right, and_both, all_join}
+use Rattle.mat_tree.proofs.Joins.{all_join}
 
 -- ---- below one name
 
@@ -70,7 +73,7 @@ starts_right_below [] = true
 starts_right_below (x ∷ xs) = not (is_deep x)
 
 same_depth : (x y : Flat) → same_flat x y ≡ true → is_deep x ≡ is_deep y
-same_depth x y e = ap is_deep_rel (same_names_true x.rel y.rel (and_left (same_names x.rel y.rel) (same_what x.what y.what) e))
+same_depth x y e = ap is_deep_rel (same_names-eq x.rel y.rel (first_so (same_names x.rel y.rel) (same_what x.what y.what) e))
 
 apart_depth : (x y : Flat) (t : Bool) → is_deep x ≡ false → is_deep y ≡ true → (same_flat x y && t) ≡ false
 apart_depth x y t e f = by (same_flat x y) refl
@@ -86,26 +89,18 @@ apart_depth_back x y t e f = by (same_flat x y) refl
     by true g = let h = same_depth x y g in cc
     by false g = refl
 
-not_true : (b : Bool) → not b ≡ true → b ≡ false
-not_true true e = cc
-not_true false e = refl
-
-and_assoc : (x y z : Bool) → (x && (y && z)) ≡ ((x && y) && z)
-and_assoc true y z = refl
-and_assoc false y z = refl
-
 aligned : (xs ys r s : List Flat) → list_all is_deep xs ≡ true → list_all is_deep ys ≡ true → starts_right_below r ≡ true → starts_right_below s ≡ true
     → same_tree (xs ++ r) (ys ++ s) ≡ (same_tree xs ys && same_tree r s)
 aligned [] [] r s d e f g = refl
 aligned [] (y ∷ ys) [] s d e f g = refl
 aligned [] (y ∷ ys) (x ∷ r) s d e f g =
-    apart_depth x y (same_tree r (ys ++ s)) (not_true (is_deep x) f) (and_left (is_deep y) (list_all is_deep ys) e)
+    apart_depth x y (same_tree r (ys ++ s)) (not-true (is_deep x) f) (first_so (is_deep y) (list_all is_deep ys) e)
 aligned (x ∷ xs) [] r [] d e f g = refl
 aligned (x ∷ xs) [] r (y ∷ s) d e f g =
-    apart_depth_back x y (same_tree (xs ++ r) s) (and_left (is_deep x) (list_all is_deep xs) d) (not_true (is_deep y) g)
+    apart_depth_back x y (same_tree (xs ++ r) s) (first_so (is_deep x) (list_all is_deep xs) d) (not-true (is_deep y) g)
 aligned (x ∷ xs) (y ∷ ys) r s d e f g =
-    ap (λ t. same_flat x y && t) (aligned xs ys r s (and_right (is_deep x) (list_all is_deep xs) d) (and_right (is_deep y) (list_all is_deep ys) e) f g)
-    ∙ and_assoc (same_flat x y) (same_tree xs ys) (same_tree r s)
+    ap (λ t. same_flat x y && t) (aligned xs ys r s (second_so (is_deep x) (list_all is_deep xs) d) (second_so (is_deep y) (list_all is_deep ys) e) f g)
+    ∙ sym (and_assoc (same_flat x y) (same_tree xs ys) (same_tree r s))
 
 -- ---- what stands behind a node is below it
 
@@ -139,8 +134,8 @@ deep_one name (a ∷ rel) e = refl
 deep_in : (name : List ℕ) (xs : List Flat) → list_all is_inner xs ≡ true → list_all is_deep (map (put_in name) xs) ≡ true
 deep_in name [] e = refl
 deep_in name (x ∷ xs) e =
-    and_both (is_deep_rel (name ∷ x.rel)) (list_all is_deep (map (put_in name) xs))
-    (deep_one name x.rel (and_left (is_inner x) (list_all is_inner xs) e)) (deep_in name xs (and_right (is_inner x) (list_all is_inner xs) e))
+    and_from (is_deep_rel (name ∷ x.rel)) (list_all is_deep (map (put_in name) xs))
+    (deep_one name x.rel (first_so (is_inner x) (list_all is_inner xs) e)) (deep_in name xs (second_so (is_inner x) (list_all is_inner xs) e))
 
 starts_all : (cs : List Child) → starts_right_below (below_all cs) ≡ true
 starts_all [] = refl
@@ -162,7 +157,7 @@ same_chunks c d cs ds =
     ∙ ap (λ t. same_flat x y && t) (aligned xs ys (below_all cs) (below_all ds)
     (deep_in (out-Child c).name (drop 1 (below_node (out-Child c).node)) (inner_behind (out-Child c).node))
     (deep_in (out-Child d).name (drop 1 (below_node (out-Child d).node)) (inner_behind (out-Child d).node)) (starts_all cs) (starts_all ds))
-    ∙ and_assoc (same_flat x y) (same_tree xs ys) (same_tree (below_all cs) (below_all ds))
+    ∙ sym (and_assoc (same_flat x y) (same_tree xs ys) (same_tree (below_all cs) (below_all ds)))
     ∙ ap (λ t. same_tree t (y ∷ ys) && same_tree (below_all cs) (below_all ds)) (sym (child_begins c))
     ∙ ap (λ t. same_tree (below_child c) t && same_tree (below_all cs) (below_all ds)) (sym (child_begins d))
 

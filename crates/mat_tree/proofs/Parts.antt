@@ -1,4 +1,7 @@
 -- What is at and below a rel of a tree is a tree.
+use Rattle.mat_path.proofs.SameNames.{same_name-eq, same_names-eq, same_names-refl}
+use Rattle.std.proofs.lemmas.Bool.{and_from}
+use Rattle.std.specs.Cmp.{first_so, second_so}
 use Rattle.std.proofs.Common.{◌≡◌, ◌≤◌, ℕ, suc, Bool, true, false, cond, ◌&&◌, ◌||◌, not, nat_le, if◌then◌else◌, List, [], ◌∷◌, map, length, drop, refl, ◌∙◌, sym, ap, subst, arith}
 use Rattle.std.proofs.lemmas.Bool.Decides.{nat_tests}
 use Rattle.std.proofs.lemmas.List.{length-append}
@@ -13,9 +16,8 @@ use Rattle.mat_tree.specs.declared.sum.Kind.{Kind}
 use Rattle.mat_tree.specs.declared.node.Node.{Node}
 use Rattle.mat_tree.specs.Nodes.{below_node, what_node}
 use Rattle.mat_tree.specs.Trees.{is_at, is_root, is_rooted, is_after, is_dir, is_dir_at, is_link, is_small, has_rel, ascends, parent_of, has_parent, is_below, seen_from, sub_tree, sub_at, is_standing, kind_of, what_at, IsTree}
-use Rattle.mat_tree.proofs.Paths.{path_cmp_in, same_name_true, same_names_true, same_names_refl}
+use Rattle.mat_tree.proofs.Paths.{path_cmp_in}
 use Rattle.mat_tree.proofs.Subtrees.{begins, what_at_sub}
-use Rattle.mat_tree.proofs.Joins.{and_left, and_right, and_both}
 
 -- ---- each node of a part
 
@@ -24,11 +26,11 @@ sub_all : (P Q : Flat → Bool) (rel : List (List ℕ)) → ((x : Flat) → P x 
     → (xs : List Flat) → list_all P xs ≡ true → list_all Q (sub_tree xs rel) ≡ true
 sub_all P Q rel each [] e = refl
 sub_all P Q rel each (x ∷ xs) e =
-    by (is_below rel x) refl (sub_all P Q rel each xs (and_right (P x) (list_all P xs) e))
+    by (is_below rel x) refl (sub_all P Q rel each xs (second_so (P x) (list_all P xs) e))
   where
     by : (b : Bool) → is_below rel x ≡ b → list_all Q (sub_tree xs rel) ≡ true
         → list_all Q (map (seen_from rel) (cond b (x ∷ filter (is_below rel) xs) (filter (is_below rel) xs))) ≡ true
-    by true f rest = and_both (Q (seen_from rel x)) (list_all Q (sub_tree xs rel)) (each x (and_left (P x) (list_all P xs) e) f) rest
+    by true f rest = and_from (Q (seen_from rel x)) (list_all Q (sub_tree xs rel)) (each x (first_so (P x) (list_all P xs) e) f) rest
     by false f rest = rest
 
 sub_length : (rel : List (List ℕ)) (xs : List Flat) → length (sub_tree xs rel) ≤ length xs
@@ -47,21 +49,21 @@ path_cmp_drop [] p q e f = refl
 path_cmp_drop (a ∷ rel) [] q e f = cc
 path_cmp_drop (a ∷ rel) (b ∷ p) [] e f = cc
 path_cmp_drop (a ∷ rel) (b ∷ p) (c ∷ q) e f =
-    path_cmp_drop rel p q (and_right (same_name a b) (is_prefix rel p) e) (and_right (same_name a c) (is_prefix rel q) f)
+    path_cmp_drop rel p q (second_so (same_name a b) (is_prefix rel p) e) (second_so (same_name a c) (is_prefix rel q) f)
     ∙ sym (path_cmp_in a p q)
-    ∙ ap (λ n. path_cmp (n ∷ p) (a ∷ q)) (same_name_true a b (and_left (same_name a b) (is_prefix rel p) e))
-    ∙ ap (λ n. path_cmp (b ∷ p) (n ∷ q)) (same_name_true a c (and_left (same_name a c) (is_prefix rel q) f))
+    ∙ ap (λ n. path_cmp (n ∷ p) (a ∷ q)) (same_name-eq a b (first_so (same_name a b) (is_prefix rel p) e))
+    ∙ ap (λ n. path_cmp (b ∷ p) (n ∷ q)) (same_name-eq a c (first_so (same_name a c) (is_prefix rel q) f))
 
 sub_ascends : (rel : List (List ℕ)) (xs : List Flat) → ascends xs ≡ true → ascends (sub_tree xs rel) ≡ true
 sub_ascends rel [] e = refl
-sub_ascends rel (x ∷ xs) e = by (is_below rel x) refl (sub_ascends rel xs (and_right (list_all (is_after x.rel) xs) (ascends xs) e))
+sub_ascends rel (x ∷ xs) e = by (is_below rel x) refl (sub_ascends rel xs (second_so (list_all (is_after x.rel) xs) (ascends xs) e))
   where
     by : (b : Bool) → is_below rel x ≡ b → ascends (sub_tree xs rel) ≡ true
         → ascends (map (seen_from rel) (cond b (x ∷ filter (is_below rel) xs) (filter (is_below rel) xs))) ≡ true
     by true f rest =
-        and_both (list_all (is_after (drop (length rel) x.rel)) (sub_tree xs rel)) (ascends (sub_tree xs rel))
+        and_from (list_all (is_after (drop (length rel) x.rel)) (sub_tree xs rel)) (ascends (sub_tree xs rel))
         (sub_all (is_after x.rel) (is_after (drop (length rel) x.rel)) rel
-        (λ y g h. ap is_lt (path_cmp_drop rel x.rel y.rel f h) ∙ g) xs (and_left (list_all (is_after x.rel) xs) (ascends xs) e))
+        (λ y g h. ap is_lt (path_cmp_drop rel x.rel y.rel f h) ∙ g) xs (first_so (list_all (is_after x.rel) xs) (ascends xs) e))
         rest
     by false f rest = rest
 
@@ -72,10 +74,10 @@ parent_drop : (rel x : List (List ℕ)) → is_prefix rel x ≡ true → same_na
 parent_drop [] x e f = (refl, refl)
 parent_drop (a ∷ rel) [] e f = cc
 parent_drop (a ∷ []) (b ∷ []) e f = cc
-parent_drop (a ∷ c ∷ rel) (b ∷ []) e f = let g = and_right (same_name a b) false e in cc
+parent_drop (a ∷ c ∷ rel) (b ∷ []) e f = let g = second_so (same_name a b) false e in cc
 parent_drop (a ∷ rel) (b ∷ c ∷ x) e f =
-    let rest = parent_drop rel (c ∷ x) (and_right (same_name a b) (is_prefix rel (c ∷ x)) e) f in
-    (and_both (same_name a b) (is_prefix rel (parent_of (c ∷ x))) (and_left (same_name a b) (is_prefix rel (c ∷ x)) e) rest.0, rest.1)
+    let rest = parent_drop rel (c ∷ x) (second_so (same_name a b) (is_prefix rel (c ∷ x)) e) f in
+    (and_from (same_name a b) (is_prefix rel (parent_of (c ∷ x))) (first_so (same_name a b) (is_prefix rel (c ∷ x)) e) rest.0, rest.1)
 
 any_sub : (rel p : List (List ℕ)) (xs : List Flat) → is_prefix rel p ≡ true → list_any (is_dir_at p) xs ≡ true
     → list_any (is_dir_at (drop (length rel) p)) (sub_tree xs rel) ≡ true
@@ -95,13 +97,13 @@ any_sub rel p (x ∷ xs) e f =
         → (list_any (is_dir_at p) xs ≡ true → list_any (is_dir_at (drop (length rel) p)) (sub_tree xs rel) ≡ true)
         → list_any (is_dir_at (drop (length rel) p)) (map (seen_from rel) (cond b (x ∷ filter (is_below rel) xs) (filter (is_below rel) xs))) ≡ true
     by true g true h f more =
-        let at = same_names_true x.rel p (and_left (is_at p x) (is_dir x.what) g) in
+        let at = same_names-eq x.rel p (first_so (is_at p x) (is_dir x.what) g) in
         or_left (is_dir_at (drop (length rel) p) (seen_from rel x)) (list_any (is_dir_at (drop (length rel) p)) (sub_tree xs rel))
-        (and_both (same_names (drop (length rel) x.rel) (drop (length rel) p)) (is_dir x.what)
-        (ap (λ r. same_names (drop (length rel) r) (drop (length rel) p)) at ∙ same_names_refl (drop (length rel) p))
-        (and_right (is_at p x) (is_dir x.what) g))
+        (and_from (same_names (drop (length rel) x.rel) (drop (length rel) p)) (is_dir x.what)
+        (ap (λ r. same_names (drop (length rel) r) (drop (length rel) p)) at ∙ same_names-refl (drop (length rel) p))
+        (second_so (is_at p x) (is_dir x.what) g))
     by true g false h f more =
-        let at = same_names_true x.rel p (and_left (is_at p x) (is_dir x.what) g) in
+        let at = same_names-eq x.rel p (first_so (is_at p x) (is_dir x.what) g) in
         let clash : false ≡ true = sym h ∙ ap (is_prefix rel) at ∙ e in cc
     by false g true h f more =
         or_right (is_dir_at (drop (length rel) p) (seen_from rel x)) (list_any (is_dir_at (drop (length rel) p)) (sub_tree xs rel)) (more f)
@@ -146,14 +148,14 @@ of_le m n e = grind (arith, nat_tests)
 
 rel_tail : (a : List ℕ) (rel : List (List ℕ)) → is_rel (a ∷ rel) ≡ true → is_rel rel ≡ true
 rel_tail a rel e =
-    let two = and_left (nat_le (length (a ∷ rel)) 64 && nat_le (length (joined (a ∷ rel))) 1024) (list_all is_name (a ∷ rel)) e in
-    let names = and_right (nat_le (length (a ∷ rel)) 64 && nat_le (length (joined (a ∷ rel))) 1024) (list_all is_name (a ∷ rel)) e in
-    let few = le_of (length (a ∷ rel)) 64 (and_left (nat_le (length (a ∷ rel)) 64) (nat_le (length (joined (a ∷ rel))) 1024) two) in
-    let short = le_of (length (joined (a ∷ rel))) 1024 (and_right (nat_le (length (a ∷ rel)) 64) (nat_le (length (joined (a ∷ rel))) 1024) two) in
+    let two = first_so (nat_le (length (a ∷ rel)) 64 && nat_le (length (joined (a ∷ rel))) 1024) (list_all is_name (a ∷ rel)) e in
+    let names = second_so (nat_le (length (a ∷ rel)) 64 && nat_le (length (joined (a ∷ rel))) 1024) (list_all is_name (a ∷ rel)) e in
+    let few = le_of (length (a ∷ rel)) 64 (first_so (nat_le (length (a ∷ rel)) 64) (nat_le (length (joined (a ∷ rel))) 1024) two) in
+    let short = le_of (length (joined (a ∷ rel))) 1024 (second_so (nat_le (length (a ∷ rel)) 64) (nat_le (length (joined (a ∷ rel))) 1024) two) in
     let tail = joined_tail a rel in
-    and_both (nat_le (length rel) 64 && nat_le (length (joined rel)) 1024) (list_all is_name rel)
-    (and_both (nat_le (length rel) 64) (nat_le (length (joined rel)) 1024) (of_le (length rel) 64 (omega arith)) (of_le (length (joined rel)) 1024 (omega arith)))
-    (and_right (is_name a) (list_all is_name rel) names)
+    and_from (nat_le (length rel) 64 && nat_le (length (joined rel)) 1024) (list_all is_name rel)
+    (and_from (nat_le (length rel) 64) (nat_le (length (joined rel)) 1024) (of_le (length rel) 64 (omega arith)) (of_le (length (joined rel)) 1024 (omega arith)))
+    (second_so (is_name a) (list_all is_name rel) names)
 
 rel_drop : (rel x : List (List ℕ)) → is_rel x ≡ true → is_rel (drop (length rel) x) ≡ true
 rel_drop [] x e = e

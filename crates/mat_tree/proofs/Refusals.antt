@@ -1,4 +1,10 @@
 -- A list that nothing refuses is a tree.
+use Rattle.mat_path.proofs.SameNames.{same_names-eq, same_names-refl}
+use Rattle.mat_path.proofs.PathLemmas.{path_cmp-refl, path_cmp_total}
+use Rattle.mat_path.proofs.Bools.{or_second}
+use Rattle.std.proofs.Math.Bool.{or-true}
+use Rattle.std.proofs.lemmas.Bool.{and_from, not-true, or_cases, or_left}
+use Rattle.std.specs.Cmp.{first_so, second_so}
 use Rattle.std.proofs.Common.{◌≡◌, ◌<◌, ◌≤◌, ◌+◌, ◌-◌, ℕ, suc, Bool, true, false, ◌&&◌, ◌||◌, not, nat_lt, if◌then◌else◌, List, [], ◌∷◌, ◌++◌, length, take, drop, get_or, refl, ◌∙◌, sym, ap, arith, append_assoc, ◌⊎◌, inl, inr, ◌==◌}
 use Rattle.std.proofs.lemmas.Bool.Decides.{nat_tests}
 use Rattle.std.proofs.lemmas.List.{take_all, drop_more}
@@ -16,22 +22,14 @@ use Rattle.mat_tree.specs.declared.flat.Flat.{Flat}
 use Rattle.mat_tree.specs.declared.refusal.TreeRefusal.{TreeRefusal}
 use Rattle.mat_tree.specs.declared.refusal.TreeRefusal.TheVariants as refusal
 use Rattle.mat_tree.specs.Trees.{is_root, is_at, is_after, is_dir, is_dir_at, is_link, ascends, parent_of, has_parent, has_rel, is_small, fault_behind, tree_refusal, follows, is_linked, IsTree}
-use Rattle.mat_tree.proofs.Paths.{path_total, path_is_itself, path_cmp_in, same_names_true, same_names_refl}
-use Rattle.mat_tree.proofs.Joins.{and_left, and_right, and_both, all_right}
-use Rattle.mat_tree.proofs.Ascending.{ascends_right}
+use Rattle.mat_tree.proofs.Paths.{path_cmp_in}
+use Rattle.mat_tree.proofs.Joins.{all_right}
+use Rattle.mat_tree.proofs.Ascending.{after_trans, ascends_right, lt_less, lt_trans_path}
 
 -- ---- the order of a rel and its parent
 
-lt_less : (o : Ordering) → is_lt o ≡ true → o ≡ Less
-lt_less Less e = refl
-lt_less Equal e = cc
-lt_less Greater e = cc
-
-pub lt_trans_path : (p q r : List (List ℕ)) → is_lt (path_cmp p q) ≡ true → is_lt (path_cmp q r) ≡ true → is_lt (path_cmp p r) ≡ true
-lt_trans_path p q r e f = ap is_lt (path_total.trans p q r (lt_less (path_cmp p q) e) (lt_less (path_cmp q r) f))
-
 lt_itself : (p : List (List ℕ)) → is_lt (path_cmp p p) ≡ false
-lt_itself p = ap is_lt (path_is_itself p)
+lt_itself p = ap is_lt (path_cmp-refl p)
 
 pub parent_less : (rel : List (List ℕ)) → 1 ≤ length rel → is_lt (path_cmp (parent_of rel) rel) ≡ true
 parent_less [] h = absurd (omega arith)
@@ -78,44 +76,26 @@ fault_step true true k o e = (refl, (refl, e))
 fault_step true false k o e = cc
 fault_step false b k o e = cc
 
-after_trans : (p : List (List ℕ)) (q : List (List ℕ)) (xs : List Flat) → is_lt (path_cmp p q) ≡ true → list_all (is_after q) xs ≡ true → list_all (is_after p) xs ≡ true
-after_trans p q [] e f = refl
-after_trans p q (x ∷ xs) e f =
-    and_both (is_after p x) (list_all (is_after p) xs) (lt_trans_path p q x.rel e (and_left (is_after q x) (list_all (is_after q) xs) f))
-    (after_trans p q xs e (and_right (is_after q x) (list_all (is_after q) xs) f))
-
 pub no_fault_ascends : (nodes : List Flat) (before : Flat) (k : ℕ) (rest : List Flat) → fault_behind nodes before k rest ≡ None → ascends (before ∷ rest) ≡ true
 no_fault_ascends nodes before k [] e = refl
 no_fault_ascends nodes before k (node ∷ rest) e =
     let told = fault_step (is_after before.rel node) (has_parent nodes node) k (fault_behind nodes node (k + 1) rest) e in
     let up = no_fault_ascends nodes node (k + 1) rest told.1.1 in
-    and_both (is_after before.rel node && list_all (is_after before.rel) rest) (ascends (node ∷ rest))
-    (and_both (is_after before.rel node) (list_all (is_after before.rel) rest) told.0
-    (after_trans before.rel node.rel rest told.0 (and_left (list_all (is_after node.rel) rest) (ascends rest) up)))
+    and_from (is_after before.rel node && list_all (is_after before.rel) rest) (ascends (node ∷ rest))
+    (and_from (is_after before.rel node) (list_all (is_after before.rel) rest) told.0
+    (after_trans before.rel node.rel rest told.0 (first_so (list_all (is_after node.rel) rest) (ascends rest) up)))
     up
 
 pub no_fault_parents : (nodes : List Flat) (before : Flat) (k : ℕ) (rest : List Flat) → fault_behind nodes before k rest ≡ None → list_all (has_parent nodes) rest ≡ true
 no_fault_parents nodes before k [] e = refl
 no_fault_parents nodes before k (node ∷ rest) e =
     let told = fault_step (is_after before.rel node) (has_parent nodes node) k (fault_behind nodes node (k + 1) rest) e in
-    and_both (has_parent nodes node) (list_all (has_parent nodes) rest) told.1.0 (no_fault_parents nodes node (k + 1) rest told.1.1)
+    and_from (has_parent nodes node) (list_all (has_parent nodes) rest) told.1.0 (no_fault_parents nodes node (k + 1) rest told.1.1)
 
 -- ---- a tree's nodes follow one another
 
-or_true : (a : Bool) → (a || true) ≡ true
-or_true true = refl
-or_true false = refl
-
 prefix_itself : (p : List (List ℕ)) → is_prefix p p ≡ true
-prefix_itself p = ap (same_names p) (take_all (length p) p (omega arith)) ∙ same_names_refl p
-
-or_right : (a b : Bool) → a ≡ false → (a || b) ≡ true → b ≡ true
-or_right true b e f = cc
-or_right false b e f = f
-
-or_cases : (a b : Bool) → (a || b) ≡ true → (a ≡ true) ⊎ (b ≡ true)
-or_cases true b e = inl refl
-or_cases false b e = inr e
+prefix_itself p = ap (same_names p) (take_all (length p) p (omega arith)) ∙ same_names-refl p
 
 pub after_not_root : (p : List (List ℕ)) (rel : List (List ℕ)) → is_lt (path_cmp p rel) ≡ true → same_names [] rel ≡ false
 after_not_root [] [] e = cc
@@ -132,48 +112,48 @@ not_at p x e = by (same_names x.rel p) refl
   where
     by : (b : Bool) → same_names x.rel p ≡ b → b ≡ false
     by true f =
-        let is : is_lt (path_cmp p p) ≡ true = ap (λ r. is_lt (path_cmp p r)) (sym (same_names_true x.rel p f)) ∙ e in
+        let is : is_lt (path_cmp p p) ≡ true = ap (λ r. is_lt (path_cmp p r)) (sym (same_names-eq x.rel p f)) ∙ e in
         sym is ∙ lt_itself p
     by false f = refl
 
 none_at : (p : List (List ℕ)) (xs : List Flat) → list_all (is_after p) xs ≡ true → list_any (is_dir_at p) xs ≡ false
 none_at p [] e = refl
 none_at p (x ∷ xs) e =
-    ap (λ b. (b && is_dir x.what) || list_any (is_dir_at p) xs) (not_at p x (and_left (is_after p x) (list_all (is_after p) xs) e))
-    ∙ none_at p xs (and_right (is_after p x) (list_all (is_after p) xs) e)
+    ap (λ b. (b && is_dir x.what) || list_any (is_dir_at p) xs) (not_at p x (first_so (is_after p x) (list_all (is_after p) xs) e))
+    ∙ none_at p xs (second_so (is_after p x) (list_all (is_after p) xs) e)
 
 -- where a directory stands at a rel in a list whose nodes come before another rel, it is before that rel
 at_before : (p q : List (List ℕ)) (xs : List Flat) → list_all (λ x. is_lt (path_cmp x.rel q)) xs ≡ true → list_any (is_dir_at p) xs ≡ true → is_lt (path_cmp p q) ≡ true
 at_before p q [] e f = cc
 at_before p q (x ∷ xs) e f =
     elim (or_cases (is_dir_at p x) (list_any (is_dir_at p) xs) f) [
-      | inl h ↦ ap (λ r. is_lt (path_cmp r q)) (sym (same_names_true x.rel p (and_left (is_at p x) (is_dir x.what) h)))
-          ∙ and_left (is_lt (path_cmp x.rel q)) (list_all (λ y. is_lt (path_cmp y.rel q)) xs) e
-      | inr h ↦ at_before p q xs (and_right (is_lt (path_cmp x.rel q)) (list_all (λ y. is_lt (path_cmp y.rel q)) xs) e) h
+      | inl h ↦ ap (λ r. is_lt (path_cmp r q)) (sym (same_names-eq x.rel p (first_so (is_at p x) (is_dir x.what) h)))
+          ∙ first_so (is_lt (path_cmp x.rel q)) (list_all (λ y. is_lt (path_cmp y.rel q)) xs) e
+      | inr h ↦ at_before p q xs (second_so (is_lt (path_cmp x.rel q)) (list_all (λ y. is_lt (path_cmp y.rel q)) xs) e) h
     ]
 
 -- the nodes before one, in a list that ascends
 before_all : (done : List Flat) (x : Flat) (rest : List Flat) → ascends (done ++ (x ∷ rest)) ≡ true → list_all (λ y. is_lt (path_cmp y.rel x.rel)) done ≡ true
 before_all [] x rest e = refl
 before_all (d ∷ done) x rest e =
-    and_both (is_lt (path_cmp d.rel x.rel)) (list_all (λ y. is_lt (path_cmp y.rel x.rel)) done)
-    (and_left (is_after d.rel x) (list_all (is_after d.rel) rest)
-    (all_right (is_after d.rel) done (x ∷ rest) (and_left (list_all (is_after d.rel) (done ++ (x ∷ rest))) (ascends (done ++ (x ∷ rest))) e)))
-    (before_all done x rest (and_right (list_all (is_after d.rel) (done ++ (x ∷ rest))) (ascends (done ++ (x ∷ rest))) e))
+    and_from (is_lt (path_cmp d.rel x.rel)) (list_all (λ y. is_lt (path_cmp y.rel x.rel)) done)
+    (first_so (is_after d.rel x) (list_all (is_after d.rel) rest)
+    (all_right (is_after d.rel) done (x ∷ rest) (first_so (list_all (is_after d.rel) (done ++ (x ∷ rest))) (ascends (done ++ (x ∷ rest))) e)))
+    (before_all done x rest (second_so (list_all (is_after d.rel) (done ++ (x ∷ rest))) (ascends (done ++ (x ∷ rest))) e))
 
 follows_dir : (node before : Flat) → is_dir_at (parent_of node.rel) before ≡ true → follows node.rel before ≡ true
 follows_dir node before e =
-    let at = same_names_true before.rel (parent_of node.rel) (and_left (is_at (parent_of node.rel) before) (is_dir before.what) e) in
+    let at = same_names-eq before.rel (parent_of node.rel) (first_so (is_at (parent_of node.rel) before) (is_dir before.what) e) in
     ap (λ d. is_prefix (parent_of node.rel) before.rel && (d || nat_lt (length (parent_of node.rel)) (length before.rel)))
-    (and_right (is_at (parent_of node.rel) before) (is_dir before.what) e)
-    ∙ and_both (is_prefix (parent_of node.rel) before.rel) true (ap (is_prefix (parent_of node.rel)) at ∙ prefix_itself (parent_of node.rel)) refl
+    (second_so (is_at (parent_of node.rel) before) (is_dir before.what) e)
+    ∙ and_from (is_prefix (parent_of node.rel) before.rel) true (ap (is_prefix (parent_of node.rel)) at ∙ prefix_itself (parent_of node.rel)) refl
 
 follows_between : (node before : Flat) → (is_prefix (parent_of node.rel) before.rel && nat_lt (length (parent_of node.rel)) (length before.rel)) ≡ true → follows node.rel before ≡ true
 follows_between node before e =
-    let short = and_right (is_prefix (parent_of node.rel) before.rel) (nat_lt (length (parent_of node.rel)) (length before.rel)) e in
-    and_both (is_prefix (parent_of node.rel) before.rel) (is_dir before.what || nat_lt (length (parent_of node.rel)) (length before.rel))
-    (and_left (is_prefix (parent_of node.rel) before.rel) (nat_lt (length (parent_of node.rel)) (length before.rel)) e)
-    (ap (λ t. is_dir before.what || t) short ∙ or_true (is_dir before.what))
+    let short = second_so (is_prefix (parent_of node.rel) before.rel) (nat_lt (length (parent_of node.rel)) (length before.rel)) e in
+    and_from (is_prefix (parent_of node.rel) before.rel) (is_dir before.what || nat_lt (length (parent_of node.rel)) (length before.rel))
+    (first_so (is_prefix (parent_of node.rel) before.rel) (nat_lt (length (parent_of node.rel)) (length before.rel)) e)
+    (ap (λ t. is_dir before.what || t) short ∙ or-true (is_dir before.what))
 
 pub follows_parent : (done : List Flat) (before node : Flat) (rest : List Flat) → ascends (done ++ (before ∷ node ∷ rest)) ≡ true
     → has_parent (done ++ (before ∷ node ∷ rest)) node ≡ true → is_root node ≡ false → follows node.rel before ≡ true
@@ -182,12 +162,12 @@ follows_parent done before node rest up has below =
     let long : 1 ≤ length node.rel = not_root_below node.rel below in
     let tail : ascends (before ∷ node ∷ rest) ≡ true = ascends_right done (before ∷ node ∷ rest) up in
     let next : is_after before.rel node ≡ true
-    = and_left (is_after before.rel node) (list_all (is_after before.rel) rest) (and_left (list_all (is_after before.rel) (node ∷ rest)) (ascends (node ∷ rest)) tail) in
+    = first_so (is_after before.rel node) (list_all (is_after before.rel) rest) (first_so (list_all (is_after before.rel) (node ∷ rest)) (ascends (node ∷ rest)) tail) in
     let behind : list_all (is_after p) (node ∷ rest) ≡ true
-    = and_both (is_after p node) (list_all (is_after p) rest) (parent_less node.rel long)
+    = and_from (is_after p node) (list_all (is_after p) rest) (parent_less node.rel long)
     (after_trans p node.rel rest (parent_less node.rel long)
-    (and_left (list_all (is_after node.rel) rest) (ascends rest) (and_right (list_all (is_after before.rel) (node ∷ rest)) (ascends (node ∷ rest)) tail))) in
-    let any : list_any (is_dir_at p) (done ++ (before ∷ node ∷ rest)) ≡ true = or_right (is_root node) (list_any (is_dir_at p) (done ++ (before ∷ node ∷ rest))) below has in
+    (first_so (list_all (is_after node.rel) rest) (ascends rest) (second_so (list_all (is_after before.rel) (node ∷ rest)) (ascends (node ∷ rest)) tail))) in
+    let any : list_any (is_dir_at p) (done ++ (before ∷ node ∷ rest)) ≡ true = or_second (is_root node) (list_any (is_dir_at p) (done ++ (before ∷ node ∷ rest))) below has in
     let split : (list_any (is_dir_at p) done || (is_dir_at p before || list_any (is_dir_at p) (node ∷ rest))) ≡ true
     = sym (list_any-append (is_dir_at p) done (before ∷ node ∷ rest)) ∙ any in
     elim (or_cases (list_any (is_dir_at p) done) (is_dir_at p before || list_any (is_dir_at p) (node ∷ rest)) split) [
@@ -205,14 +185,14 @@ linked_from nodes done before (node ∷ rest) e up has =
     let here : ascends (done ++ (before ∷ node ∷ rest)) ≡ true = ap ascends (sym e) ∙ up in
     let tail : ascends (before ∷ node ∷ rest) ≡ true = ascends_right done (before ∷ node ∷ rest) here in
     let next : is_after before.rel node ≡ true
-    = and_left (is_after before.rel node) (list_all (is_after before.rel) rest) (and_left (list_all (is_after before.rel) (node ∷ rest)) (ascends (node ∷ rest)) tail) in
+    = first_so (is_after before.rel node) (list_all (is_after before.rel) rest) (first_so (list_all (is_after before.rel) (node ∷ rest)) (ascends (node ∷ rest)) tail) in
     let below : is_root node ≡ false = after_not_root before.rel node.rel next in
     let parent : has_parent (done ++ (before ∷ node ∷ rest)) node ≡ true
-    = ap (λ t. has_parent t node) (sym e) ∙ and_left (has_parent nodes node) (list_all (has_parent nodes) rest) has in
-    and_both (not (is_root node) && follows node.rel before) (is_linked node rest)
-    (and_both (not (is_root node)) (follows node.rel before) (ap not below) (follows_parent done before node rest here parent below))
+    = ap (λ t. has_parent t node) (sym e) ∙ first_so (has_parent nodes node) (list_all (has_parent nodes) rest) has in
+    and_from (not (is_root node) && follows node.rel before) (is_linked node rest)
+    (and_from (not (is_root node)) (follows node.rel before) (ap not below) (follows_parent done before node rest here parent below))
     (linked_from nodes (done ++ (before ∷ [])) node rest (e ∙ sym (append_assoc done (before ∷ []) (node ∷ rest))) up
-    (and_right (has_parent nodes node) (list_all (has_parent nodes) rest) has))
+    (second_so (has_parent nodes node) (list_all (has_parent nodes) rest) has))
 
 -- ---- the code's tests
 
@@ -257,7 +237,7 @@ steps : (root : Flat) (rest : List Flat) → tree_refusal (root ∷ rest) ≡ No
 steps root rest e = root_steps (is_root root) (is_link root.what) (nat_lt 9999 (length rest)) (fault_behind (root ∷ rest) root 1 rest) e
 
 pub no_refusal_root : (nodes : List Flat) (root : Flat) (rest : List Flat) → nodes ≡ root ∷ rest → tree_refusal nodes ≡ None → root.rel ≡ []
-no_refusal_root nodes root rest e f = sym (same_names_true [] root.rel (steps root rest (ap tree_refusal (sym e) ∙ f)).0)
+no_refusal_root nodes root rest e f = sym (same_names-eq [] root.rel (steps root rest (ap tree_refusal (sym e) ∙ f)).0)
 
 pub no_refusal_linked : (nodes : List Flat) (root : Flat) (rest : List Flat) → nodes ≡ root ∷ rest → tree_refusal nodes ≡ None → is_linked root rest ≡ true
 no_refusal_linked nodes root rest e f =
@@ -267,19 +247,15 @@ no_refusal_linked nodes root rest e f =
 few_of : (n : ℕ) → nat_lt 9999 n ≡ false → suc n ≤ 10000
 few_of n e = grind (arith, nat_tests)
 
-or_left : (a b : Bool) → a ≡ true → (a || b) ≡ true
-or_left true b e = refl
-or_left false b e = cc
-
 pub no_refusal_is_tree : (nodes : List Flat) → tree_refusal nodes ≡ None → list_all is_small nodes ≡ true → list_all has_rel nodes ≡ true → IsTree nodes
 no_refusal_is_tree [] e small rels = cc
 no_refusal_is_tree (root ∷ rest) e small rels =
     let told = steps root rest e in
     record {
-      root = and_both (is_root root) (not (is_link root.what)) told.0 (ap not told.1.0);
+      root = and_from (is_root root) (not (is_link root.what)) told.0 (ap not told.1.0);
       few = few_of (length rest) told.1.1.0;
       order = no_fault_ascends (root ∷ rest) root 1 rest told.1.1.1;
-      parents = and_both (has_parent (root ∷ rest) root) (list_all (has_parent (root ∷ rest)) rest)
+      parents = and_from (has_parent (root ∷ rest) root) (list_all (has_parent (root ∷ rest)) rest)
           (or_left (is_root root) (list_any (is_dir_at (parent_of root.rel)) (root ∷ rest)) told.0) (no_fault_parents (root ∷ rest) root 1 rest told.1.1.1);
       small = small;
       rels = rels;
@@ -319,17 +295,13 @@ tree_no_fault : (nodes : List Flat) (before : Flat) (k : ℕ) (rest : List Flat)
     → fault_behind nodes before k rest ≡ None
 tree_no_fault nodes before k [] up has = refl
 tree_no_fault nodes before k (node ∷ rest) up has =
-    let here = and_left (list_all (is_after before.rel) (node ∷ rest)) (ascends (node ∷ rest)) up in
-    let after = and_left (is_after before.rel node) (list_all (is_after before.rel) rest) here in
-    let parent = and_left (has_parent nodes node) (list_all (has_parent nodes) rest) has in
+    let here = first_so (list_all (is_after before.rel) (node ∷ rest)) (ascends (node ∷ rest)) up in
+    let after = first_so (is_after before.rel node) (list_all (is_after before.rel) rest) here in
+    let parent = first_so (has_parent nodes node) (list_all (has_parent nodes) rest) has in
     ap (λ b. if not b then Some (refusal.Order k) else if not (has_parent nodes node) then Some (refusal.Under k) else fault_behind nodes node (k + 1) rest) after
     ∙ ap (λ b. if not b then Some (refusal.Under k) else fault_behind nodes node (k + 1) rest) parent
-    ∙ tree_no_fault nodes node (k + 1) rest (and_right (list_all (is_after before.rel) (node ∷ rest)) (ascends (node ∷ rest)) up)
-    (and_right (has_parent nodes node) (list_all (has_parent nodes) rest) has)
-
-not_true : (b : Bool) → not b ≡ true → b ≡ false
-not_true true e = cc
-not_true false e = refl
+    ∙ tree_no_fault nodes node (k + 1) rest (second_so (list_all (is_after before.rel) (node ∷ rest)) (ascends (node ∷ rest)) up)
+    (second_so (has_parent nodes node) (list_all (has_parent nodes) rest) has)
 
 many_of : (n : ℕ) → suc n ≤ 10000 → nat_lt 9999 n ≡ false
 many_of n h = grind (arith, nat_tests)
@@ -337,10 +309,10 @@ many_of n h = grind (arith, nat_tests)
 pub is_tree_no_refusal : (nodes : List Flat) → IsTree nodes → tree_refusal nodes ≡ None
 is_tree_no_refusal [] t = let e : false ≡ true = t.root in cc
 is_tree_no_refusal (root ∷ rest) t =
-    let first = and_left (is_root root) (not (is_link root.what)) t.root in
-    let link = not_true (is_link root.what) (and_right (is_root root) (not (is_link root.what)) t.root) in
+    let first = first_so (is_root root) (not (is_link root.what)) t.root in
+    let link = not-true (is_link root.what) (second_so (is_root root) (not (is_link root.what)) t.root) in
     ap (λ b. if not b then Some refusal.NoRoot else if is_link root.what then Some refusal.RootLink else if nat_lt 9999 (length rest) then Some refusal.TooMany
     else fault_behind (root ∷ rest) root 1 rest) first
     ∙ ap (λ b. if b then Some refusal.RootLink else if nat_lt 9999 (length rest) then Some refusal.TooMany else fault_behind (root ∷ rest) root 1 rest) link
     ∙ ap (λ b. if b then Some refusal.TooMany else fault_behind (root ∷ rest) root 1 rest) (many_of (length rest) t.few)
-    ∙ tree_no_fault (root ∷ rest) root 1 rest t.order (and_right (has_parent (root ∷ rest) root) (list_all (has_parent (root ∷ rest)) rest) t.parents)
+    ∙ tree_no_fault (root ∷ rest) root 1 rest t.order (second_so (has_parent (root ∷ rest) root) (list_all (has_parent (root ∷ rest)) rest) t.parents)

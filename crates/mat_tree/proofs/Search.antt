@@ -1,4 +1,6 @@
 -- A search by halves among children in strict order of name.
+use Rattle.mat_path.proofs.SameNames.{same_name-eq, same_name-sym}
+use Rattle.std.specs.Cmp.{first_so, second_so}
 use Rattle.std.proofs.Common.{◌≡◌, ◌<◌, ◌≤◌, ℕ, zero, suc, Bool, true, false, cond, List, [], ◌∷◌, map, length, drop, get_or, nat_lt, refl, ◌∙◌, sym, ap, arith}
 use Rattle.std.specs.List.{AllWithin, find, list_all}
 use Rattle.std.specs.List.Sorted.{IsNonDecreasingBy, IsPartitionPoint}
@@ -7,15 +9,14 @@ use Rattle.std.specs.declared.cmp.Ordering.{Ordering}
 use Rattle.std.specs.declared.cmp.Ordering.TheVariants.{Less, Equal, Greater}
 use Rattle.std.specs.declared.option.Option.TheVariants.{Some, None}
 use Rattle.std.specs.Cmp.Lexicographic.{texts_ties}
-use Rattle.std.proofs.lemmas.Bool.{ltb-false, ltb-true}
+use Rattle.std.proofs.lemmas.Bool.{and_from, ltb-false, ltb-true}
 use Rattle.std.proofs.lemmas.Cmp.{nat_list_cmp_total}
 use Rattle.mat_path.specs.Names.{name_cmp}
 use Rattle.mat_tree.specs.declared.node.Child.{Child, out-Child}
 use Rattle.mat_tree.specs.Nodes.{are_in_order, at_root, below_all, below_child, below_node, child_cmp, is_behind, is_named, put_in, what_node}
 use Rattle.mat_tree.specs.Trees.{ascends, is_after}
 use Rattle.mat_tree.proofs.Ascending.{ascends_right}
-use Rattle.mat_tree.proofs.Joins.{and_both, and_left, and_right, all_left, all_right}
-use Rattle.mat_tree.proofs.Paths.{same_name_symm, same_name_true}
+use Rattle.mat_tree.proofs.Joins.{all_left, all_right}
 use Rattle.mat_tree.proofs.Subtrees.{after_child, child_begins}
 
 lt_is : (o : Ordering) → is_lt o ≡ true → o ≡ Less
@@ -36,20 +37,20 @@ child_behind name c e =
     let first : list_all (is_after (name ∷ [])) (put_in (out-Child c).name (at_root (what_node (out-Child c).node)) ∷ map (put_in (out-Child c).name) (drop 1 (below_node (out-Child c).node))) ≡ true =
     ap (list_all (is_after (name ∷ []))) (sym (child_begins c)) ∙ e in
     alone_lt (name_cmp name (out-Child c).name)
-    (and_left (is_after (name ∷ []) (put_in (out-Child c).name (at_root (what_node (out-Child c).node))))
+    (first_so (is_after (name ∷ []) (put_in (out-Child c).name (at_root (what_node (out-Child c).node))))
     (list_all (is_after (name ∷ [])) (map (put_in (out-Child c).name) (drop 1 (below_node (out-Child c).node)))) first)
 
 all_behind : (name : List ℕ) (cs : List Child) → list_all (is_after (name ∷ [])) (below_all cs) ≡ true → list_all (is_behind name) cs ≡ true
 all_behind name [] e = refl
 all_behind name (c ∷ cs) e =
-    and_both (is_behind name c) (list_all (is_behind name) cs)
+    and_from (is_behind name c) (list_all (is_behind name) cs)
     (child_behind name c (all_left (is_after (name ∷ [])) (below_child c) (below_all cs) e))
     (all_behind name cs (all_right (is_after (name ∷ [])) (below_child c) (below_all cs) e))
 
 pub in_order : (cs : List Child) → ascends (below_all cs) ≡ true → are_in_order cs ≡ true
 in_order [] e = refl
 in_order (c ∷ cs) e =
-    and_both (list_all (is_behind (out-Child c).name) cs) (are_in_order cs)
+    and_from (list_all (is_behind (out-Child c).name) cs) (are_in_order cs)
     (all_behind (out-Child c).name cs (after_child c cs e))
     (in_order cs (ascends_right (below_child c) (below_all cs) e))
 
@@ -58,8 +59,8 @@ in_order (c ∷ cs) e =
 behind_at : (name : List ℕ) (cs : List Child) (k : ℕ) (d : Child) → list_all (is_behind name) cs ≡ true → k < length cs
     → is_behind name (get_or cs k d) ≡ true
 behind_at name [] k d e h = absurd (omega arith)
-behind_at name (c ∷ cs) zero d e h = and_left (is_behind name c) (list_all (is_behind name) cs) e
-behind_at name (c ∷ cs) (suc k) d e h = behind_at name cs k d (and_right (is_behind name c) (list_all (is_behind name) cs) e) (omega arith)
+behind_at name (c ∷ cs) zero d e h = first_so (is_behind name c) (list_all (is_behind name) cs) e
+behind_at name (c ∷ cs) (suc k) d e h = behind_at name cs k d (second_so (is_behind name c) (list_all (is_behind name) cs) e) (omega arith)
 
 index_small : (o : Ordering) → ordering_index o ≤ 2
 index_small Less = omega arith
@@ -75,7 +76,7 @@ earlier a b name e = by (name_cmp b name) refl
         let less : name_cmp a name ≡ Less = nat_list_cmp_total.trans a b name (lt_is (name_cmp a b) e) q in
         let none : ordering_index (name_cmp a name) ≡ 0 = ap ordering_index less in omega (arith, none)
     by Equal q =
-        let same : b ≡ name = same_name_true b name (texts_ties b name ∙ ap is_eq q) in
+        let same : b ≡ name = same_name-eq b name (texts_ties b name ∙ ap is_eq q) in
         let less : name_cmp a name ≡ Less = ap (name_cmp a) (sym same) ∙ lt_is (name_cmp a b) e in
         let none : ordering_index (name_cmp a name) ≡ 0 = ap ordering_index less in omega (arith, none)
     by Greater q = index_small (name_cmp a name)
@@ -85,19 +86,19 @@ rises name [] e i j d le h = absurd (omega arith)
 rises name (c ∷ cs) e zero zero d le h = omega arith
 rises name (c ∷ cs) e zero (suc j) d le h =
     earlier (out-Child c).name (out-Child (get_or cs j d)).name name
-    (behind_at (out-Child c).name cs j d (and_left (list_all (is_behind (out-Child c).name) cs) (are_in_order cs) e) (omega arith))
+    (behind_at (out-Child c).name cs j d (first_so (list_all (is_behind (out-Child c).name) cs) (are_in_order cs) e) (omega arith))
 rises name (c ∷ cs) e (suc i) zero d le h = absurd (omega arith)
 rises name (c ∷ cs) e (suc i) (suc j) d le h =
-    rises name cs (and_right (list_all (is_behind (out-Child c).name) cs) (are_in_order cs) e) i j d (omega arith) (omega arith)
+    rises name cs (second_so (list_all (is_behind (out-Child c).name) cs) (are_in_order cs) e) i j d (omega arith) (omega arith)
 
 -- a child is named as its name stands to the name
 named_is : (name : List ℕ) (c : Child) → is_named name c ≡ is_eq (child_cmp name c)
-named_is name c = same_name_symm name (out-Child c).name ∙ texts_ties (out-Child c).name name
+named_is name c = same_name-sym name (out-Child c).name ∙ texts_ties (out-Child c).name name
 
 -- a child in order that comes before one of the name has another name
 other_name : (name : List ℕ) (c e : Child) → is_behind (out-Child c).name e ≡ true → child_cmp name e ≡ Equal → is_named name c ≡ false
 other_name name c e behind equal =
-    let same : (out-Child e).name ≡ name = same_name_true (out-Child e).name name (texts_ties (out-Child e).name name ∙ ap is_eq equal) in
+    let same : (out-Child e).name ≡ name = same_name-eq (out-Child e).name name (texts_ties (out-Child e).name name ∙ ap is_eq equal) in
     named_is name c ∙ ap is_eq (ap (name_cmp (out-Child c).name) (sym same) ∙ lt_is (name_cmp (out-Child c).name (out-Child e).name) behind)
 
 pub found_at : (name : List ℕ) (cs : List Child) (k : ℕ) (d : Child) → are_in_order cs ≡ true → k < length cs
@@ -105,10 +106,10 @@ pub found_at : (name : List ℕ) (cs : List Child) (k : ℕ) (d : Child) → are
 found_at name [] k d e h q = absurd (omega arith)
 found_at name (c ∷ cs) zero d e h q = sym (ap (λ b. cond b (Some c) (find (is_named name) cs)) (named_is name c ∙ ap is_eq q))
 found_at name (c ∷ cs) (suc k) d e h q =
-    found_at name cs k d (and_right (list_all (is_behind (out-Child c).name) cs) (are_in_order cs) e) (omega arith) q
+    found_at name cs k d (second_so (list_all (is_behind (out-Child c).name) cs) (are_in_order cs) e) (omega arith) q
     ∙ sym (ap (λ b. cond b (Some c) (find (is_named name) cs))
     (other_name name c (get_or cs k d)
-    (behind_at (out-Child c).name cs k d (and_left (list_all (is_behind (out-Child c).name) cs) (are_in_order cs) e) (omega arith)) q))
+    (behind_at (out-Child c).name cs k d (first_so (list_all (is_behind (out-Child c).name) cs) (are_in_order cs) e) (omega arith)) q))
 
 -- no child is named where none stands equal
 none_named : (name : List ℕ) (cs : List Child) → AllWithin (λ c. is_eq (child_cmp name c) ≡ false) cs 0 (length cs) → None ≡ find (is_named name) cs

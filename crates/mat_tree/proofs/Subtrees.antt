@@ -1,4 +1,6 @@
 -- The nodes at and below a rel.
+use Rattle.mat_path.proofs.SameNames.{same_name-eq}
+use Rattle.std.specs.Cmp.{first_so, second_so}
 use Rattle.std.proofs.Common.{◌≡◌, ℕ, Bool, true, false, cond, ◌&&◌, List, [], ◌∷◌, ◌++◌, map, length, drop, take, get_or, ◌≤◌, ◌-◌, refl, ◌∙◌, sym, ap, append-nil, arith}
 use Rattle.std.proofs.lemmas.List.{take_all}
 use Rattle.std.specs.List.{list_all, find, filter}
@@ -15,10 +17,10 @@ use Rattle.mat_tree.specs.declared.node.Children.{Children, out-Children}
 use Rattle.mat_tree.specs.declared.node.Node.TheVariants as variant
 use Rattle.mat_tree.specs.Nodes.{at_root, put_in, node_step, child_step, children_step, layer_what, what_node, below_node, below_child, below_children, below_all, is_named}
 use Rattle.mat_tree.specs.Trees.{is_at, is_after, ascends, is_below, seen_from, sub_tree, what_of, what_at}
-use Rattle.mat_tree.proofs.Paths.{apart, same_as_prefix, same_name_true}
+use Rattle.mat_tree.proofs.Paths.{apart, same_as_prefix}
 use Rattle.mat_tree.proofs.Ascending.{after_first, ascends_left, ascends_right, ascends_in}
 use Rattle.mat_tree.proofs.Folds.{below_child_out, below_dir_out}
-use Rattle.mat_tree.proofs.Joins.{and_left, and_right, all_left, all_right}
+use Rattle.mat_tree.proofs.Joins.{all_left, all_right}
 
 -- ---- a node's list begins with the node
 
@@ -89,7 +91,7 @@ sub_tree_after name more (c ∷ cs) e =
     let is = below_child_out c ∙ ap (map (put_in (out-Child c).name)) (begins (out-Child c).node) in
     let told : list_all (is_after (name ∷ [])) (map (put_in (out-Child c).name) (at_root (what_node (out-Child c).node) ∷ drop 1 (below_node (out-Child c).node))) ≡ true
     = ap (list_all (is_after (name ∷ []))) (sym is) ∙ first in
-    let other = apart name (out-Child c).name (and_left (is_after (name ∷ []) (put_in (out-Child c).name (at_root (what_node (out-Child c).node))))
+    let other = apart name (out-Child c).name (first_so (is_after (name ∷ []) (put_in (out-Child c).name (at_root (what_node (out-Child c).node))))
     (list_all (is_after (name ∷ [])) (map (put_in (out-Child c).name) (drop 1 (below_node (out-Child c).node)))) told) in
     sub_tree-append (name ∷ more) (below_child c) (below_all cs)
     ∙ ap (λ t. sub_tree t (name ∷ more) ++ sub_tree (below_all cs) (name ∷ more)) (below_child_out c)
@@ -126,7 +128,7 @@ sub_tree_children name more (c ∷ cs) e =
         ≡ found_sub more (cond b (Some c) (find (is_named name) cs))
     by true f rest =
         ap (λ t. sub_tree (map (put_in (out-Child c).name) (below_node (out-Child c).node)) (name ∷ more) ++ t)
-        (sub_tree_after name more cs (ap (λ n. list_all (is_after (n ∷ [])) (below_all cs)) (same_name_true name (out-Child c).name f) ∙ after_child c cs e))
+        (sub_tree_after name more cs (ap (λ n. list_all (is_after (n ∷ [])) (below_all cs)) (same_name-eq name (out-Child c).name f) ∙ after_child c cs e))
         ∙ append-nil (sub_tree (map (put_in (out-Child c).name) (below_node (out-Child c).node)) (name ∷ more))
         ∙ sub_tree_same name (out-Child c).name more (below_node (out-Child c).node) f
     by false f rest =
@@ -150,7 +152,7 @@ child_ascends name (d ∷ cs) c e f =
 pub dir_ascends : (n : Node) (cs : Children) (list : List Child) → n ≡ variant.Dir cs → list ≡ (out-Children cs).list → ascends (below_node n) ≡ true
     → ascends (below_all list) ≡ true
 dir_ascends n cs list e f up =
-    and_right (list_all (is_after []) (below_all list)) (ascends (below_all list)) (ap ascends (sym (below_dir_out n cs list e f)) ∙ up)
+    second_so (list_all (is_after []) (below_all list)) (ascends (below_all list)) (ap ascends (sym (below_dir_out n cs list e f)) ∙ up)
 
 -- what is at and below some names, from the child of the first
 pub descends : (n : Node) (cs : Children) (list : List Child) (names : List (List ℕ)) (name : List ℕ) (more : List (List ℕ)) (o : Option Child)

@@ -1,4 +1,8 @@
 -- Where each node comes after the one before it and stands in a directory of those before it, there is no fault.
+use Rattle.mat_path.proofs.SameNames.{same_name-eq, same_name-refl, same_names-refl}
+use Rattle.mat_path.proofs.Bools.{or_first, or_weaker}
+use Rattle.std.proofs.lemmas.Bool.{and_from, or_left, or_right}
+use Rattle.std.specs.Cmp.{first_so, second_so}
 use Rattle.std.proofs.Common.{◌≡◌, ◌<◌, ◌≤◌, ◌+◌, ℕ, suc, Bool, true, false, ◌&&◌, ◌||◌, not, nat_lt, if◌then◌else◌, List, [], ◌∷◌, ◌++◌, length, drop, get_or, refl, ◌∙◌, sym, ap, arith, append_assoc}
 use Rattle.std.proofs.lemmas.Bool.Decides.{nat_tests}
 use Rattle.std.proofs.lemmas.List.{drop_more}
@@ -9,8 +13,6 @@ use Rattle.mat_path.specs.Names.{same_name, same_names, is_prefix}
 use Rattle.mat_tree.specs.declared.flat.Flat.{Flat}
 use Rattle.mat_tree.specs.declared.refusal.TreeRefusal.TheVariants as refusal
 use Rattle.mat_tree.specs.Trees.{is_root, is_at, is_after, is_dir, is_dir_at, parent_of, has_parent, fault_behind, follows, is_in_turn}
-use Rattle.mat_tree.proofs.Paths.{same_name_true, same_name_refl, same_names_refl}
-use Rattle.mat_tree.proofs.Joins.{and_left, and_right, and_both}
 
 -- ---- prefixes
 
@@ -22,14 +24,14 @@ prefix_trans [] q r e f = refl
 prefix_trans (a ∷ p) [] r e f = cc
 prefix_trans (a ∷ p) (b ∷ q) [] e f = cc
 prefix_trans (a ∷ p) (b ∷ q) (c ∷ r) e f =
-    and_both (same_name a c) (is_prefix p r)
-    (ap (λ n. same_name n c) (same_name_true a b (and_left (same_name a b) (is_prefix p q) e)) ∙ and_left (same_name b c) (is_prefix q r) f)
-    (prefix_trans p q r (and_right (same_name a b) (is_prefix p q) e) (and_right (same_name b c) (is_prefix q r) f))
+    and_from (same_name a c) (is_prefix p r)
+    (ap (λ n. same_name n c) (same_name-eq a b (first_so (same_name a b) (is_prefix p q) e)) ∙ first_so (same_name b c) (is_prefix q r) f)
+    (prefix_trans p q r (second_so (same_name a b) (is_prefix p q) e) (second_so (same_name b c) (is_prefix q r) f))
 
 prefix_length : (p q : List (List ℕ)) → is_prefix p q ≡ true → length p ≤ length q
 prefix_length [] q e = omega arith
 prefix_length (a ∷ p) [] e = cc
-prefix_length (a ∷ p) (b ∷ q) e = omega (arith, prefix_length p q (and_right (same_name a b) (is_prefix p q) e))
+prefix_length (a ∷ p) (b ∷ q) e = omega (arith, prefix_length p q (second_so (same_name a b) (is_prefix p q) e))
 
 -- a prefix that isn't shorter is the whole
 prefix_whole : (p q : List (List ℕ)) → is_prefix p q ≡ true → nat_lt (length p) (length q) ≡ false → p ≡ q
@@ -37,8 +39,8 @@ prefix_whole [] [] e f = refl
 prefix_whole [] (b ∷ q) e f = let g : nat_lt 0 (suc (length q)) ≡ true = grind (arith, nat_tests) in cc
 prefix_whole (a ∷ p) [] e f = cc
 prefix_whole (a ∷ p) (b ∷ q) e f =
-    ap (λ n. n ∷ p) (same_name_true a b (and_left (same_name a b) (is_prefix p q) e))
-    ∙ ap (λ r. b ∷ r) (prefix_whole p q (and_right (same_name a b) (is_prefix p q) e) (sym (lt_suc (length p) (length q)) ∙ f))
+    ap (λ n. n ∷ p) (same_name-eq a b (first_so (same_name a b) (is_prefix p q) e))
+    ∙ ap (λ r. b ∷ r) (prefix_whole p q (second_so (same_name a b) (is_prefix p q) e) (sym (lt_suc (length p) (length q)) ∙ f))
 
 -- a shorter prefix is one of the parent
 prefix_parent : (p x : List (List ℕ)) → is_prefix p x ≡ true → nat_lt (length p) (length x) ≡ true → is_prefix p (parent_of x) ≡ true
@@ -46,30 +48,14 @@ prefix_parent [] x e f = refl
 prefix_parent (a ∷ p) [] e f = cc
 prefix_parent (a ∷ p) (b ∷ []) e f = let g : nat_lt (suc (length p)) 1 ≡ false = grind (arith, nat_tests) in cc
 prefix_parent (a ∷ p) (b ∷ c ∷ x) e f =
-    and_both (same_name a b) (is_prefix p (parent_of (c ∷ x))) (and_left (same_name a b) (is_prefix p (c ∷ x)) e)
-    (prefix_parent p (c ∷ x) (and_right (same_name a b) (is_prefix p (c ∷ x)) e) (sym (lt_suc (length p) (length (c ∷ x))) ∙ f))
+    and_from (same_name a b) (is_prefix p (parent_of (c ∷ x))) (first_so (same_name a b) (is_prefix p (c ∷ x)) e)
+    (prefix_parent p (c ∷ x) (second_so (same_name a b) (is_prefix p (c ∷ x)) e) (sym (lt_suc (length p) (length (c ∷ x))) ∙ f))
 
 -- ---- the folders of a node
 
 -- each folder of a rel is a directory of a list
 abbrev HasFolders : List Flat → List (List ℕ) → Type 0
 HasFolders nodes rel = (p : List (List ℕ)) → is_prefix p rel ≡ true → nat_lt (length p) (length rel) ≡ true → list_any (is_dir_at p) nodes ≡ true
-
-or_of : (a b : Bool) → b ≡ false → (a || b) ≡ true → a ≡ true
-or_of true b e f = refl
-or_of false b e f = let g : false ≡ true = sym e ∙ f in cc
-
-or_left : (a b : Bool) → a ≡ true → (a || b) ≡ true
-or_left true b e = refl
-or_left false b e = cc
-
-or_right : (a b : Bool) → b ≡ true → (a || b) ≡ true
-or_right true b e = refl
-or_right false b e = e
-
-or_more : (a b c : Bool) → (b ≡ true → c ≡ true) → (a || b) ≡ true → (a || c) ≡ true
-or_more true b c f e = refl
-or_more false b c f e = f e
 
 -- a directory or a folder of the node before
 at_prefix : (nodes done : List Flat) (before : Flat) (rest : List Flat) → nodes ≡ done ++ (before ∷ rest) → HasFolders nodes before.rel
@@ -83,8 +69,8 @@ at_prefix nodes done before rest is folders p e f = by (nat_lt (length p) (lengt
         ap (list_any (is_dir_at p)) is ∙ list_any-append (is_dir_at p) done (before ∷ rest)
         ∙ or_right (list_any (is_dir_at p) done) (is_dir_at p before || list_any (is_dir_at p) rest)
         (or_left (is_dir_at p before) (list_any (is_dir_at p) rest)
-        (and_both (is_at p before) (is_dir before.what) (ap (same_names before.rel) same ∙ same_names_refl before.rel)
-        (or_of (is_dir before.what) (nat_lt (length p) (length before.rel)) g f)))
+        (and_from (is_at p before) (is_dir before.what) (ap (same_names before.rel) same ∙ same_names-refl before.rel)
+        (or_first (is_dir before.what) (nat_lt (length p) (length before.rel)) g f)))
 
 lt_le : (m n k : ℕ) → m ≤ n → nat_lt n k ≡ true → nat_lt m k ≡ true
 lt_le m n k h e = grind (arith, nat_tests)
@@ -93,24 +79,24 @@ lt_le m n k h e = grind (arith, nat_tests)
 at_folder : (nodes done : List Flat) (before : Flat) (rest : List Flat) (rel : List (List ℕ)) → nodes ≡ done ++ (before ∷ rest) → HasFolders nodes before.rel
     → follows rel before ≡ true → (p : List (List ℕ)) → is_prefix p (parent_of rel) ≡ true → list_any (is_dir_at p) nodes ≡ true
 at_folder nodes done before rest rel is folders f p e =
-    let inside = and_left (is_prefix (parent_of rel) before.rel) (is_dir before.what || nat_lt (length (parent_of rel)) (length before.rel)) f in
-    let open_or = and_right (is_prefix (parent_of rel) before.rel) (is_dir before.what || nat_lt (length (parent_of rel)) (length before.rel)) f in
+    let inside = first_so (is_prefix (parent_of rel) before.rel) (is_dir before.what || nat_lt (length (parent_of rel)) (length before.rel)) f in
+    let open_or = second_so (is_prefix (parent_of rel) before.rel) (is_dir before.what || nat_lt (length (parent_of rel)) (length before.rel)) f in
     at_prefix nodes done before rest is folders p (prefix_trans p (parent_of rel) before.rel e inside)
-    (or_more (is_dir before.what) (nat_lt (length (parent_of rel)) (length before.rel)) (nat_lt (length p) (length before.rel))
+    (or_weaker (is_dir before.what) (nat_lt (length (parent_of rel)) (length before.rel)) (nat_lt (length p) (length before.rel))
     (lt_le (length p) (length (parent_of rel)) (length before.rel) (prefix_length p (parent_of rel) e)) open_or)
 
 prefix_itself : (p : List (List ℕ)) → is_prefix p p ≡ true
 prefix_itself [] = refl
-prefix_itself (a ∷ p) = and_both (same_name a a) (is_prefix p p) (same_name_refl a) (prefix_itself p)
+prefix_itself (a ∷ p) = and_from (same_name a a) (is_prefix p p) (same_name-refl a) (prefix_itself p)
 
 in_turn_behind : (nodes done : List Flat) (before : Flat) (k : ℕ) (rest : List Flat) → nodes ≡ done ++ (before ∷ rest) → HasFolders nodes before.rel
     → is_in_turn before rest ≡ true → fault_behind nodes before k rest ≡ None
 in_turn_behind nodes done before k [] is folders e = refl
 in_turn_behind nodes done before k (node ∷ rest) is folders e =
-    let two = and_left (is_after before.rel node && follows node.rel before) (is_in_turn node rest) e in
-    let after = and_left (is_after before.rel node) (follows node.rel before) two in
-    let follow = and_right (is_after before.rel node) (follows node.rel before) two in
-    let more = and_right (is_after before.rel node && follows node.rel before) (is_in_turn node rest) e in
+    let two = first_so (is_after before.rel node && follows node.rel before) (is_in_turn node rest) e in
+    let after = first_so (is_after before.rel node) (follows node.rel before) two in
+    let follow = second_so (is_after before.rel node) (follows node.rel before) two in
+    let more = second_so (is_after before.rel node && follows node.rel before) (is_in_turn node rest) e in
     let parent : has_parent nodes node ≡ true
     = or_right (is_root node) (list_any (is_dir_at (parent_of node.rel)) nodes)
     (at_folder nodes done before (node ∷ rest) node.rel is folders follow (parent_of node.rel) (prefix_itself (parent_of node.rel))) in

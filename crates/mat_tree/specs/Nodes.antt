@@ -9,9 +9,13 @@ use Rattle.mat_tree.specs.declared.flat.What.{What}
 use Rattle.mat_tree.specs.declared.flat.What.TheVariants as what
 use Rattle.mat_tree.specs.declared.node.Node.{Node, out-Node}
 use Rattle.mat_tree.specs.declared.node.Child.{Child, out-Child}
-use Rattle.mat_tree.specs.declared.node.Children.{Children}
+use Rattle.mat_tree.specs.declared.node.Children.{Children, out-Children}
 use Rattle.mat_tree.specs.declared.node.Node.TheOpen as layer
 use Rattle.mat_tree.specs.declared.node.Node.TheFolds.{fold-Node, fold-Child, fold-Children}
+
+-- the children of a directory, in order of name
+abbrev pub children_list : Children → List Child
+children_list children = (out-Children children).list
 
 -- a node below a folder of this name
 abbrev pub put_in : List ℕ → Flat → Flat

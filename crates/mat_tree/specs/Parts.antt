@@ -1,4 +1,4 @@
--- What a part of a disk has, and when it holds a tree.
+-- What a part of a disk has, and when it has a tree.
 use Rattle.std.specs.Prelude.{◌≡◌, ℕ, Bool, if◌then◌else◌, List, ◌++◌, length, drop, Option, Some, None}
 use Rattle.std.specs.Option.{option_map}
 use Rattle.mat_digest.specs.Digests.{digest_of}
@@ -24,9 +24,9 @@ declared_by folder = what.Dir
 declared_by (file bytes exec) = what.File (digest_of bytes) exec
 declared_by (link target) = what.Link target
 
--- a part holds a tree: at each rel it has what the tree has there, and nothing else
-abbrev pub Holds : Part → List Flat → Type 0
-Holds part tree = (rel : List (List ℕ)) → option_map declared_by (part rel) ≡ what_at tree rel
+-- a part has a tree: at each rel it has what the tree has there, and nothing else
+abbrev pub HasTree : Part → List Flat → Type 0
+HasTree part tree = (rel : List (List ℕ)) → option_map declared_by (part rel) ≡ what_at tree rel
 
 -- nothing
 abbrev pub bare : Part

@@ -1,11 +1,12 @@
 -- A tree, as contracts see it: its flat list, one node for each file, directory and link, in order of rel.
-use Rattle.std.specs.Prelude.{◌≡◌, ◌≤◌, ℕ, ◌==◌, ◌+◌, ◌&&◌, ◌||◌, nat_le, nat_lt, Bool, true, false, not, if◌then◌else◌, List, [], ◌∷◌, length, drop, map, Option, Some, None}
+use Rattle.std.specs.Prelude.{◌≡◌, ◌≤◌, ℕ, ◌==◌, ◌+◌, ◌&&◌, ◌||◌, nat_le, nat_lt, Bool, true, false, not, if◌then◌else◌, List, [], ◌∷◌, ◌++◌, length, drop, map, Option, Some, None}
 use Rattle.std.specs.List.{list_any, list_all, find, filter, sum_by}
 use Rattle.std.specs.Ordering.{is_lt}
 use Rattle.std.specs.Option.{option_map}
 use Rattle.mat_digest.specs.declared.digest.Digest.{Digest}
 use Rattle.std.specs.Cmp.Lexicographic.{pointwise}
-use Rattle.mat_path.specs.Names.{same_name, same_names, is_rel, is_prefix, path_cmp}
+use Rattle.mat_path.specs.Names.{is_path, is_prefix, is_rel, is_target, path_cmp, same_name, same_names}
+use Rattle.mat_digest.specs.Digests.{IsDigest}
 use Rattle.mat_tree.specs.declared.flat.Flat.{Flat}
 use Rattle.mat_tree.specs.declared.flat.What.{What}
 use Rattle.mat_tree.specs.declared.flat.What.TheVariants as what
@@ -64,6 +65,20 @@ kind_of (what.Link target) = None
 abbrev pub same_digest : Digest → Digest → Bool
 same_digest a b = same_name a.hash b.hash && (a.size == b.size)
 
+-- what a node is can stand in a tree: a digest of 32 bytes and a size of 64 bits, a target of the bytes that one may have
+abbrev pub IsWhat : What → Type 0
+IsWhat (what.File digest exec) = IsDigest digest
+IsWhat what.Dir = Unit {0}
+IsWhat (what.Link target) = is_target target ≡ true
+
+-- the same of a node
+abbrev pub IsNode : Flat → Type 0
+IsNode node = IsWhat node.what
+
+-- whether a node of a tree that stands at a path is at a path itself
+abbrev pub is_placed : List (List ℕ) → Flat → Bool
+is_placed path node = is_path (path ++ node.rel)
+
 -- whether two kinds are the same
 abbrev pub same_kind : Kind → Kind → Bool
 same_kind kind.File kind.File = true
@@ -120,9 +135,13 @@ size_of node = what_size node.what
 abbrev pub bytes_of : List Flat → ℕ
 bytes_of nodes = sum_by size_of nodes
 
--- a file has at most 64 MiB
+-- the most bytes that a file of a tree has: 64 MiB
+abbrev pub greatest_file : ℕ
+greatest_file = 67108864
+
+-- a file is within that limit
 abbrev pub is_small : Flat → Bool
-is_small node = nat_le (size_of node) 67108864
+is_small node = nat_le (size_of node) greatest_file
 
 -- whether a node stands at a rel that is one
 abbrev pub has_rel : Flat → Bool
@@ -137,14 +156,26 @@ abbrev pub is_rooted : List Flat → Bool
 is_rooted [] = false
 is_rooted (root ∷ rest) = is_root root && not (is_link root.what)
 
+-- whether something is at a place greater than this one
+abbrev pub is_after_by : {X : Type 0} → (X → List (List ℕ)) → List (List ℕ) → X → Bool
+is_after_by place rel x = is_lt (path_cmp rel (place x))
+
+-- whether places ascend strictly: each is less than all behind it
+abbrev pub ascends_by : {X : Type 0} → (X → List (List ℕ)) → List X → Bool
+ascends_by place [] = true
+ascends_by place (x ∷ rest) = list_all (is_after_by place (place x)) rest && ascends_by place rest
+
+-- the rel of a node
+abbrev pub rel_of_node : Flat → List (List ℕ)
+rel_of_node node = node.rel
+
 -- whether a node's rel is greater than this one
 abbrev pub is_after : List (List ℕ) → Flat → Bool
-is_after rel node = is_lt (path_cmp rel node.rel)
+is_after rel node = is_after_by rel_of_node rel node
 
--- whether rels ascend strictly: each is less than all behind it
+-- whether the rels of nodes ascend strictly
 abbrev pub ascends : List Flat → Bool
-ascends [] = true
-ascends (node ∷ rest) = list_all (is_after node.rel) rest && ascends rest
+ascends nodes = ascends_by rel_of_node nodes
 
 -- the rel of the folder that a rel stands in: its names but the last
 abbrev pub parent_of : List (List ℕ) → List (List ℕ)

@@ -23,8 +23,8 @@ pub struct Flat {
     pub what: What,
 }
 
-// The most bytes that a file of a tree has: 64 MiB.
-const MOST_BYTES: u64 = 67_108_864;
+/// The most bytes that a file of a tree has: 64 MiB.
+pub const GREATEST_FILE: u64 = 67_108_864;
 
 impl Flat {
     /// Whether the node is within the limit of a file's size, 67,108,864 bytes. Takes no memory.
@@ -32,7 +32,7 @@ impl Flat {
         ensures { result ≡ is_small self.now }
     {
         match &self.what {
-            What::File { digest, .. } => digest.size <= MOST_BYTES,
+            What::File { digest, .. } => digest.size <= GREATEST_FILE,
             What::Dir => true,
             What::Link(_) => true,
         }

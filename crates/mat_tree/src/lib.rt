@@ -1,4 +1,4 @@
-//! What an artifact is: trees of files, directories and links, seen as flat lists.
+//! Floor of values: what an artifact is, as trees of files, directories and links, seen as flat lists.
 #![tactic(auto)]
 
 mod build;
@@ -16,7 +16,7 @@ mod sum;
 mod tests;
 mod tree;
 
-pub use flat::{Flat, What};
+pub use flat::{Flat, GREATEST_FILE, What};
 pub use node::{Child, Children, Node};
 pub use refusal::TreeRefusal;
 pub use sum::{Kind, Sum};

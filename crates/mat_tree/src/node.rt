@@ -1,5 +1,5 @@
 ghost use Rattle.std.specs.Prelude.{◌≡◌};
-ghost use Rattle.mat_tree.specs.Nodes.{what_node};
+ghost use Rattle.mat_tree.specs.Nodes.{children_list, what_node};
 ghost use Rattle.mat_tree.specs.Trees.{is_link, kind_of};
 ghost use Rattle.mat_tree.specs.declared.node.Children.{out-Children};
 
@@ -37,7 +37,7 @@ pub struct Child {
 impl Children {
     /// The children in strict order of name. Takes no memory.
     pub fn list(&self) -> &[Child]
-        ensures { result.now ≡ (out-Children self.now).list }
+        ensures { result.now ≡ children_list self.now }
     {
         self.list.as_slice()
     }

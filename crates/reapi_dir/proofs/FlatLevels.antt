@@ -1,4 +1,5 @@
 -- The digest of a directory's message, from its flat list, is that of the message in which each directory has the digest of its own message.
+use Rattle.mat_path.proofs.SameNames.{same_names-eq, same_names-refl}
 use Rattle.std.proofs.Common.{◌≡◌, ◌<◌, ◌≤◌, ◌+◌, ℕ, zero, suc, Bool, true, false, ◌||◌, cond, List, [], ◌∷◌, ◌++◌, length, map, drop, refl, ◌∙◌, sym, ap, subst, arith}
 use Rattle.std.specs.List.{AllByRecursion, filter, flat_map}
 use Rattle.mat_digest.specs.Digests.{digest_of}
@@ -7,7 +8,6 @@ use Rattle.mat_path.specs.Names.{joined}
 use Rattle.mat_tree.specs.declared.flat.Flat.{Flat}
 use Rattle.mat_tree.specs.Sums.{children_of, digest_down, dir_digest, dir_named, dir_part, file_part, is_child, is_single, link_part, message_by}
 use Rattle.mat_tree.specs.Trees.{has_node, is_at, is_below, seen_from, sub_tree}
-use Rattle.mat_tree.proofs.Paths.{same_names_refl, same_names_true}
 use Rattle.reapi_dir.specs.SumMessage.{first_name}
 
 -- ---- lists
@@ -88,7 +88,7 @@ module _ (name : List ℕ) where
       by : (b : Bool) → is_at child x ≡ b → (has_node xs child ≡ true → under (sub_tree xs child) < under xs) → (b || has_node xs child) ≡ true
           → under (sub_tree (x ∷ xs) child) < under (x ∷ xs)
       by true e rest h =
-          let same : x.rel ≡ child = same_names_true x.rel child e in
+          let same : x.rel ≡ child = same_names-eq x.rel child e in
           omega (arith, itself (is_below child x) x (filter (is_below child) xs) same, under_most xs, ap named same)
       by false e rest h = omega (arith, one_more (is_below child x) x (filter (is_below child) xs), rest h)
 
@@ -96,7 +96,7 @@ module _ (name : List ℕ) where
 stand : (all xs : List Flat) → ((rel : List (List ℕ)) → has_node xs rel ≡ true → has_node all rel ≡ true) → AllByRecursion (λ (x : Flat). has_node all x.rel ≡ true) xs
 stand all [] h = tt
 stand all (x ∷ xs) h = (
-  h x.rel (ap (λ b. b || has_node xs x.rel) (same_names_refl x.rel)),
+  h x.rel (ap (λ b. b || has_node xs x.rel) (same_names-refl x.rel)),
   stand all xs (λ rel there. h rel (or_true (is_at rel x) (has_node xs rel) there)),
 )
   where

@@ -1,6 +1,5 @@
 pub mod Answering
 pub mod Appends
-pub mod BothTests
 pub mod Children
 pub mod FlatLevels
 pub mod HashBytes

@@ -1,6 +1,7 @@
 -- What is written of a list of nodes is read as it, and what is read as one was written of it.
+use Rattle.std.specs.Cmp.{first_so, second_so}
 use Rattle.std.proofs.Common.{◌≡◌, ℕ, zero, suc, ◌-◌, ◌^◌, ◌<◌, ◌≤◌, nat_eq, ◌==◌, Bool, true, false, if◌then◌else◌, List, [], ◌∷◌, ◌++◌, length, map, slice_get, Option, Some, Result, Ok, Err, ◌⊎◌, inl, inr, refl, sym, ap, ◌∙◌, subst, arith, length-append, append-nil, append_assoc}
-use Rattle.std.proofs.lemmas.Bool.{eq-eqb}
+use Rattle.std.proofs.lemmas.Bool.{and_from, eq-eqb}
 use Rattle.hex.specs.Hex.{IsBytes}
 use Rattle.reapi_dir.specs.declared.refusal.DirRefusal.{DirRefusal}
 use Rattle.reapi_dir.specs.Grammar.{Fields}
@@ -8,7 +9,6 @@ use Rattle.reapi_dir.specs.Reading.{is_new, newest, nodes_read}
 use Rattle.reapi_dir.specs.Wire.{Read, begins_with}
 use Rattle.reapi_dir.proofs.Order.{all_new}
 use Rattle.reapi_dir.proofs.Steps.{nodes_end, nodes_more}
-use Rattle.reapi_dir.proofs.BothTests.{and_both, and_first, and_second}
 use Rattle.reapi_dir.proofs.WireBack.{both_gave, bytes_back}
 
 -- where a choice gave a value
@@ -68,7 +68,7 @@ module _ {T : Type 0} (name : T → List ℕ) (IsField : List ℕ → T → Type
     all_is = l.all_is ∙ append_assoc nodes (node ∷ []) l.more;
     whole = a ∙ ap (λ (xs : List ℕ). field ++ xs) l.whole ∙ sym (append_assoc field l.front rest);
     fields = (field, l.front, refl, is, l.fields);
-    new = and_both (is_new (newest name nodes) earlier (name node)) (all_new earlier (Some (name node)) (map name l.more)) new
+    new = and_from (is_new (newest name nodes) earlier (name node)) (all_new earlier (Some (name node)) (map name l.more)) new
         (subst (λ (o : Option (List ℕ)). all_new earlier o (map name l.more) ≡ true) (newest_more name nodes node) l.new);
     few = omega (arith, l.few);
   }
@@ -101,8 +101,8 @@ module _ {T : Type 0} (name : T → List ℕ) (IsField : List ℕ → T → Type
       let starts : begins_with key (field ++ (behind ++ rest)) ≡ true = rw first.1 (same_key key) in
       let len = ap length whole in
       let sizes = length-append field behind in
-      let fresh = and_first (is_new (newest name nodes) earlier (name node)) (all_new earlier (Some (name node)) (map name more)) new in
-      let others = and_second (is_new (newest name nodes) earlier (name node)) (all_new earlier (Some (name node)) (map name more)) new in
+      let fresh = first_so (is_new (newest name nodes) earlier (name node)) (all_new earlier (Some (name node)) (map name more)) new in
+      let others = second_so (is_new (newest name nodes) earlier (name node)) (all_new earlier (Some (name node)) (map name more)) new in
       let read = back nodes end field node (behind ++ rest) is fresh (omega arith) in
       let step = nodes_more key next room nodes end (field ++ (behind ++ rest)) node (behind ++ rest) starts read in
       let tail = nodes_back back begins more room (nodes ++ node ∷ []) end behind rest fields

@@ -1,4 +1,6 @@
 -- What is written of a node is read as it, and what is read as a node was written of it.
+use Rattle.mat_tree.specs.Trees.{greatest_file}
+use Rattle.std.specs.Cmp.{first_so, second_so}
 use Rattle.std.proofs.Common.{◌≡◌, ℕ, zero, suc, ◌^◌, ◌<◌, ◌≤◌, nat_le, Bool, true, false, ◌&&◌, not, List, [], ◌∷◌, ◌++◌, length, Option, Some, None, Ok, refl, sym, ap, ◌∙◌, subst, arith, length-append, append-nil, append_assoc}
 use Rattle.std.specs.List.{list_all}
 use Rattle.std.proofs.lemmas.Bool.{eqb-true, le-leb, leb-true}
@@ -12,10 +14,9 @@ use Rattle.mat_tree.specs.Messages.{bytes_field, digest_message, dir_message, fi
 use Rattle.reapi_dir.specs.declared.message.FileNode.{FileNode}
 use Rattle.reapi_dir.specs.declared.message.DirNode.{DirNode}
 use Rattle.reapi_dir.specs.declared.message.LinkNode.{LinkNode}
-use Rattle.reapi_dir.specs.Grammar.{IsDir, IsFile, IsLink, greatest_dir, greatest_file}
+use Rattle.reapi_dir.specs.Grammar.{IsDir, IsFile, IsLink, greatest_dir}
 use Rattle.reapi_dir.specs.Reading.{dir_read, digest_field_read, digest_read, exec_field_read, exec_read, file_read, hash_at, is_new, link_read, name_field_read, name_read, size_field_read, size_read, target_read}
 use Rattle.reapi_dir.specs.Wire.{groups_read, key_read, last_read, place, varint_read}
-use Rattle.reapi_dir.proofs.BothTests.{and_first, and_second}
 use Rattle.reapi_dir.proofs.WireBack.{both_gave, bytes_back, field_back, field_spells, key_back, key_spells, keyed, keyed_bytes, same_first, same_second, same_value, test_gave, varint_back, varint_spells}
 
 -- ---- the end of a message
@@ -52,7 +53,7 @@ size_spells (b ∷ more) size limit end h read =
     let key = key_spells (b ∷ more) 16 end first.0 h first.1 in
     let number = varint_spells first.0 second.0.0 end second.0.1 (bytes_back (varint 16) first.0 (subst IsBytes key h)) second.1 in
     size_spelled (b ∷ more) first.0 second.0.1 second.0.0 third.0 size limit key number.0 last.0 passed.1 last.1
-    (leb-true 1 second.0.0 (and_first _ _ passed.0)) (leb-true second.0.0 limit (and_second _ _ passed.0))
+    (leb-true 1 second.0.0 (first_so _ _ passed.0)) (leb-true second.0.0 limit (second_so _ _ passed.0))
   where
     size_spelled : (bytes first rest : List ℕ) (number fitting size limit : ℕ) → bytes ≡ varint 16 ++ first → first ≡ varint number ++ rest → rest ≡ []
         → number ≡ fitting → fitting ≡ size → 1 ≤ number → number ≤ limit → (bytes ≡ number_field 2 size) × (size ≤ limit)
@@ -125,14 +126,14 @@ digest_field_spells bytes d limit end rest h fits read =
 
 pub name_len : (name : List ℕ) → is_name name ≡ true → length name ≤ 255
 name_len name h =
-    leb-true (length name) 255 (and_second (nat_le 1 (length name)) (nat_le (length name) 255)
-    (and_first (nat_le 1 (length name) && nat_le (length name) 255) (list_all is_name_byte name)
-    (and_first (nat_le 1 (length name) && nat_le (length name) 255 && list_all is_name_byte name) (not (is_dots name)) h)))
+    leb-true (length name) 255 (second_so (nat_le 1 (length name)) (nat_le (length name) 255)
+    (first_so (nat_le 1 (length name) && nat_le (length name) 255) (list_all is_name_byte name)
+    (first_so (nat_le 1 (length name) && nat_le (length name) 255 && list_all is_name_byte name) (not (is_dots name)) h)))
 
 pub target_len : (target : List ℕ) → is_target target ≡ true → length target ≤ 1024
 target_len target h =
-    leb-true (length target) 1024 (and_second (nat_le 1 (length target)) (nat_le (length target) 1024)
-    (and_first (nat_le 1 (length target) && nat_le (length target) 1024) (list_all is_text_byte target) h))
+    leb-true (length target) 1024 (second_so (nat_le 1 (length target)) (nat_le (length target) 1024)
+    (first_so (nat_le 1 (length target) && nat_le (length target) 1024) (list_all is_text_byte target) h))
 
 pub name_back : (last : Option (List ℕ)) (earlier : List (List ℕ)) (name : List ℕ) (end : ℕ) (rest : List ℕ) → is_name name ≡ true
     → is_new last earlier name ≡ true → name_read last earlier end (bytes_field 1 name ++ rest) ≡ Ok (name, rest)

@@ -6,11 +6,10 @@ use Rattle.std.specs.List.Sorted.{IsBinarySearchResult, IsNonDecreasingBy, IsSea
 use Rattle.std.specs.Ordering.{is_eq, is_lt, ordering_index, ordering_reverse}
 use Rattle.std.specs.declared.cmp.Ordering.{Ordering}
 use Rattle.std.specs.declared.cmp.Ordering.TheVariants.{Less, Equal, Greater}
-use Rattle.std.specs.Cmp.{IsTotalOrder}
+use Rattle.std.specs.Cmp.{IsTotalOrder, first_so, second_so}
 use Rattle.std.specs.Cmp.Rules.{comparing}
 use Rattle.std.specs.Cmp.Lexicographic.{texts_ties}
-use Rattle.std.proofs.lemmas.Bool.{cases_lt}
-use Rattle.reapi_dir.proofs.BothTests.{and_both, and_first, and_second}
+use Rattle.std.proofs.lemmas.Bool.{and_from, cases_lt}
 use Rattle.mat_path.specs.Names.{name_cmp, same_name}
 use Rattle.reapi_dir.specs.Grammar.{ascend, is_before}
 
@@ -31,10 +30,10 @@ eq_back Greater = refl
 pub before_all : (a b : List ℕ) (names : List (List ℕ)) → is_before a b ≡ true → list_all (is_before b) names ≡ true → list_all (is_before a) names ≡ true
 before_all a b [] h all = refl
 before_all a b (name ∷ names) h all =
-    let first = is_less (name_cmp b name) (and_first (is_before b name) (list_all (is_before b) names) all) in
+    let first = is_less (name_cmp b name) (first_so (is_before b name) (list_all (is_before b) names) all) in
     let below : name_cmp a name ≡ Less = names_total.trans a b name (is_less (name_cmp a b) h) first in
-    and_both (is_before a name) (list_all (is_before a) names) (rw below refl)
-    (before_all a b names h (and_second (is_before b name) (list_all (is_before b) names) all))
+    and_from (is_before a name) (list_all (is_before a) names) (rw below refl)
+    (before_all a b names h (second_so (is_before b name) (list_all (is_before b) names) all))
 
 -- whether a name is that of a node, by their order
 pub same_by_order : (name other : List ℕ) → same_name name other ≡ is_eq (name_cmp other name)
@@ -66,19 +65,19 @@ module _ {T : Type 0} (name_of : T → List ℕ) (name : List ℕ) where
   first_below : (x : T) (xs : List T) → list_all (is_before (name_of x)) (map name_of xs) ≡ true → (j : ℕ) (d : T) → j < length xs
       → name_cmp (name_of x) (name_of (slice_index_or xs j d)) ≡ Less
   first_below x [] h j d inside = absurd (omega arith)
-  first_below x (y ∷ ys) h zero d inside = is_less _ (and_first (is_before (name_of x) (name_of y)) (list_all (is_before (name_of x)) (map name_of ys)) h)
+  first_below x (y ∷ ys) h zero d inside = is_less _ (first_so (is_before (name_of x) (name_of y)) (list_all (is_before (name_of x)) (map name_of ys)) h)
   first_below x (y ∷ ys) h (suc j) d inside =
-      first_below x ys (and_second (is_before (name_of x) (name_of y)) (list_all (is_before (name_of x)) (map name_of ys)) h) j d (omega arith)
+      first_below x ys (second_so (is_before (name_of x) (name_of y)) (list_all (is_before (name_of x)) (map name_of ys)) h) j d (omega arith)
 
   rising : (xs : List T) → ascend (map name_of xs) ≡ true → IsNonDecreasingBy (λ y. ordering_index (name_cmp (name_of y) name)) xs
   rising [] h i j d le inside = absurd (omega arith)
   rising (x ∷ xs) h zero zero d le inside = omega arith
   rising (x ∷ xs) h zero (suc j) d le inside =
       below_against (name_of x) (name_of (slice_index_or xs j d)) name
-      (first_below x xs (and_first (list_all (is_before (name_of x)) (map name_of xs)) (ascend (map name_of xs)) h) j d (omega arith)) _ refl
+      (first_below x xs (first_so (list_all (is_before (name_of x)) (map name_of xs)) (ascend (map name_of xs)) h) j d (omega arith)) _ refl
   rising (x ∷ xs) h (suc i) zero d le inside = absurd (omega arith)
   rising (x ∷ xs) h (suc i) (suc j) d le inside =
-      rising xs (and_second (list_all (is_before (name_of x)) (map name_of xs)) (ascend (map name_of xs)) h) i j d (omega arith) (omega arith)
+      rising xs (second_so (list_all (is_before (name_of x)) (map name_of xs)) (ascend (map name_of xs)) h) i j d (omega arith) (omega arith)
 
   -- a name that stands at an index is found
   stands : (xs : List T) (k : ℕ) → k < length xs → ((d : T) → name_cmp (name_of (slice_index_or xs k d)) name ≡ Equal)

@@ -1,4 +1,5 @@
 -- The message of a tree is spelled by the bytes whose digest is the digest of the tree's sum.
+use Rattle.std.specs.Cmp.{first_so}
 use Rattle.std.proofs.Common.{◌≡◌, ◌≤◌, ◌+◌, ℕ, true, false, not, cond, List, [], ◌∷◌, length, map, Some, option_map, refl, ◌∙◌, sym, ap, subst, arith}
 use Rattle.std.specs.List.{All, filter, filter_map, find}
 use Rattle.std.proofs.lemmas.List.{length-map}
@@ -8,10 +9,9 @@ use Rattle.mat_tree.specs.declared.flat.Flat.{Flat}
 use Rattle.mat_tree.specs.declared.flat.What.{What}
 use Rattle.mat_tree.specs.declared.flat.What.TheVariants as what
 use Rattle.mat_tree.specs.Sums.{children_of, dir_digest, is_single, message_by, sum_of, sum_under}
-use Rattle.mat_tree.specs.Trees.{IsTree, is_at, is_link, is_root, is_rooted, what_at, what_of}
+use Rattle.mat_tree.specs.Trees.{IsNode, IsTree, is_at, is_link, is_root, is_rooted, what_at, what_of}
 use Rattle.reapi_dir.specs.Grammar.{InOrder, IsMessage, Spells, ascend, dir_name, file_name, link_name, most_children}
-use Rattle.reapi_dir.specs.SumMessage.{IsNode, child_dir, child_file, child_link, child_name, children_message_of}
-use Rattle.reapi_dir.proofs.BothTests.{and_first}
+use Rattle.reapi_dir.specs.SumMessage.{child_dir, child_file, child_link, child_name, children_message_of}
 use Rattle.reapi_dir.proofs.FlatLevels.{digest_is_of_message}
 use Rattle.reapi_dir.proofs.MessageBack.{text_spells}
 use Rattle.reapi_dir.proofs.SumOrder.{apart_among, apart_both, ascend_among, children_ascend, dir_names, dir_no_link, file_names, file_no_dir, file_no_link, holds_dir, holds_file, holds_link, kinds_few, link_names}
@@ -33,7 +33,7 @@ same_none (name ∷ names) e = cc
 pub fewer_children : (nodes : List Flat) → is_rooted nodes ≡ true → length (children_of nodes) + 1 ≤ length nodes
 fewer_children [] e = cc
 fewer_children (root ∷ rest) e =
-    let other = none_single root.rel (and_first (is_root root) (not (is_link root.what)) e) in
+    let other = none_single root.rel (first_so (is_root root) (not (is_link root.what)) e) in
     let few = children_few rest in
     omega (arith, ap (λ b. length (cond b (root ∷ children_of rest) (children_of rest))) other)
 
@@ -43,7 +43,7 @@ some_same v w e = cc
 pub sum_digest : (nodes : List Flat) → is_rooted nodes ≡ true → what_at nodes [] ≡ Some what.Dir → (sum_of nodes).digest ≡ digest_of (message_by dir_digest nodes)
 sum_digest [] rooted e = cc
 sum_digest (root ∷ rest) rooted e =
-    let first = same_none root.rel (and_first (is_root root) (not (is_link root.what)) rooted) in
+    let first = same_none root.rel (first_so (is_root root) (not (is_link root.what)) rooted) in
     let found = ap (λ b. option_map what_of (cond b (Some root) (find (is_at []) rest))) first in
     let dir : root.what ≡ what.Dir = some_same root.what what.Dir (sym found ∙ e) in
     ap (λ (w : What). (sum_under w (root ∷ rest)).digest) dir ∙ digest_is_of_message (root ∷ rest)

@@ -1,4 +1,7 @@
 -- The children of a tree whose nodes ascend have names that ascend; so have the children of each kind, and no name is that of two kinds.
+use Rattle.mat_path.proofs.SameNames.{same_name-sym}
+use Rattle.std.specs.Cmp.{first_so, second_so}
+use Rattle.std.proofs.lemmas.Bool.{and_from}
 use Rattle.std.proofs.Common.{◌≡◌, ℕ, ◌+◌, ◌≤◌, Bool, true, false, ◌&&◌, ◌||◌, not, cond, List, [], ◌∷◌, ◌++◌, length, map, Option, refl, sym, ap, ◌∙◌, arith}
 use Rattle.std.specs.List.{cons_option, filter, filter_map, list_all, list_any}
 use Rattle.std.specs.Cmp.Lexicographic.{texts_ties}
@@ -13,13 +16,11 @@ use Rattle.mat_tree.specs.declared.flat.What.{What}
 use Rattle.mat_tree.specs.declared.flat.What.TheVariants as what
 use Rattle.mat_tree.specs.Sums.{children_of, is_child}
 use Rattle.mat_tree.specs.Trees.{ascends, is_after, is_dir, is_link}
-use Rattle.mat_tree.proofs.Paths.{same_name_symm}
 use Rattle.reapi_dir.specs.Grammar.{are_apart, ascend, dir_name, file_name, is_before, link_name}
 use Rattle.reapi_dir.specs.declared.message.FileNode.{FileNode}
 use Rattle.reapi_dir.specs.declared.message.DirNode.{DirNode}
 use Rattle.reapi_dir.specs.declared.message.LinkNode.{LinkNode}
 use Rattle.reapi_dir.specs.SumMessage.{child_dir, child_file, child_link, child_name, dir_node_of, file_node_of, first_name, link_node_of}
-use Rattle.reapi_dir.proofs.BothTests.{and_both, and_first, and_second}
 use Rattle.reapi_dir.proofs.FlatLevels.{single_is}
 
 -- ---- names in order
@@ -36,8 +37,8 @@ before_other a b e = texts_ties a b ∙ less_other (name_cmp a b) e
 not_before : (name : List ℕ) (names : List (List ℕ)) → list_all (is_before name) names ≡ true → not (list_any (same_name name) names) ≡ true
 not_before name [] e = refl
 not_before name (n ∷ names) e =
-    ap (λ b. not (b || list_any (same_name name) names)) (before_other name n (and_first (is_before name n) (list_all (is_before name) names) e))
-    ∙ not_before name names (and_second (is_before name n) (list_all (is_before name) names) e)
+    ap (λ b. not (b || list_any (same_name name) names)) (before_other name n (first_so (is_before name n) (list_all (is_before name) names) e))
+    ∙ not_before name names (second_so (is_before name n) (list_all (is_before name) names) e)
 
 -- one name more, which is before the others
 apart_more : (name : List ℕ) (names others : List (List ℕ)) → list_all (is_before name) others ≡ true → are_apart names others ≡ true
@@ -45,10 +46,10 @@ apart_more : (name : List ℕ) (names others : List (List ℕ)) → list_all (is
 apart_more name names [] e h = refl
 apart_more name names (n ∷ others) e h =
     let first = not (list_any (same_name n) names) in
-    let other = same_name_symm n name ∙ before_other name n (and_first (is_before name n) (list_all (is_before name) others) e) in
-    and_both (not (same_name n name || list_any (same_name n) names)) (are_apart (name ∷ names) others)
-    (ap (λ b. not (b || list_any (same_name n) names)) other ∙ and_first first (are_apart names others) h)
-    (apart_more name names others (and_second (is_before name n) (list_all (is_before name) others) e) (and_second first (are_apart names others) h))
+    let other = same_name-sym n name ∙ before_other name n (first_so (is_before name n) (list_all (is_before name) others) e) in
+    and_from (not (same_name n name || list_any (same_name n) names)) (are_apart (name ∷ names) others)
+    (ap (λ b. not (b || list_any (same_name n) names)) other ∙ first_so first (are_apart names others) h)
+    (apart_more name names others (second_so (is_before name n) (list_all (is_before name) others) e) (second_so first (are_apart names others) h))
 
 -- names apart from two lists are apart from both
 pub apart_both : (names more others : List (List ℕ)) → are_apart names others ≡ true → are_apart more others ≡ true → are_apart (names ++ more) others ≡ true
@@ -56,9 +57,9 @@ apart_both names more [] h k = refl
 apart_both names more (n ∷ others) h k =
     let a = list_any (same_name n) names in
     let b = list_any (same_name n) more in
-    and_both (not (list_any (same_name n) (names ++ more))) (are_apart (names ++ more) others)
-    (ap not (list_any-append (same_name n) names more) ∙ neither a b (and_first (not a) (are_apart names others) h) (and_first (not b) (are_apart more others) k))
-    (apart_both names more others (and_second (not a) (are_apart names others) h) (and_second (not b) (are_apart more others) k))
+    and_from (not (list_any (same_name n) (names ++ more))) (are_apart (names ++ more) others)
+    (ap not (list_any-append (same_name n) names more) ∙ neither a b (first_so (not a) (are_apart names others) h) (first_so (not b) (are_apart more others) k))
+    (apart_both names more others (second_so (not a) (are_apart names others) h) (second_so (not b) (are_apart more others) k))
   where
     neither : (a b : Bool) → not a ≡ true → not b ≡ true → not (a || b) ≡ true
     neither true b e f = cc
@@ -69,23 +70,23 @@ apart_both names more (n ∷ others) h k =
 all_among : (q : List ℕ → Bool) (p : Flat → Bool) (cs : List Flat) → list_all q (map child_name cs) ≡ true → list_all q (map child_name (filter p cs)) ≡ true
 all_among q p [] e = refl
 all_among q p (c ∷ cs) e =
-    by (p c) (and_first (q (child_name c)) (list_all q (map child_name cs)) e)
-    (all_among q p cs (and_second (q (child_name c)) (list_all q (map child_name cs)) e))
+    by (p c) (first_so (q (child_name c)) (list_all q (map child_name cs)) e)
+    (all_among q p cs (second_so (q (child_name c)) (list_all q (map child_name cs)) e))
   where
     by : (b : Bool) → q (child_name c) ≡ true → list_all q (map child_name (filter p cs)) ≡ true
         → list_all q (map child_name (cond b (c ∷ filter p cs) (filter p cs))) ≡ true
-    by true first rest = and_both (q (child_name c)) (list_all q (map child_name (filter p cs))) first rest
+    by true first rest = and_from (q (child_name c)) (list_all q (map child_name (filter p cs))) first rest
     by false first rest = rest
 
 pub ascend_among : (p : Flat → Bool) (cs : List Flat) → ascend (map child_name cs) ≡ true → ascend (map child_name (filter p cs)) ≡ true
 ascend_among p [] e = refl
 ascend_among p (c ∷ cs) e =
-    by (p c) (all_among (is_before (child_name c)) p cs (and_first (list_all (is_before (child_name c)) (map child_name cs)) (ascend (map child_name cs)) e))
-    (ascend_among p cs (and_second (list_all (is_before (child_name c)) (map child_name cs)) (ascend (map child_name cs)) e))
+    by (p c) (all_among (is_before (child_name c)) p cs (first_so (list_all (is_before (child_name c)) (map child_name cs)) (ascend (map child_name cs)) e))
+    (ascend_among p cs (second_so (list_all (is_before (child_name c)) (map child_name cs)) (ascend (map child_name cs)) e))
   where
     by : (b : Bool) → list_all (is_before (child_name c)) (map child_name (filter p cs)) ≡ true → ascend (map child_name (filter p cs)) ≡ true
         → ascend (map child_name (cond b (c ∷ filter p cs) (filter p cs))) ≡ true
-    by true first rest = and_both (list_all (is_before (child_name c)) (map child_name (filter p cs))) (ascend (map child_name (filter p cs))) first rest
+    by true first rest = and_from (list_all (is_before (child_name c)) (map child_name (filter p cs))) (ascend (map child_name (filter p cs))) first rest
     by false first rest = rest
 
 -- children of two kinds have no name in common
@@ -94,9 +95,9 @@ pub apart_among : (p q : Flat → Bool) → ((c : Flat) → (p c && q c) ≡ fal
 apart_among p q never [] e = refl
 apart_among p q never (c ∷ cs) e =
     let name = child_name c in
-    let before = and_first (list_all (is_before name) (map child_name cs)) (ascend (map child_name cs)) e in
+    let before = first_so (list_all (is_before name) (map child_name cs)) (ascend (map child_name cs)) e in
     by (p c) (q c) (never c) (all_among (is_before name) p cs before) (all_among (is_before name) q cs before)
-    (apart_among p q never cs (and_second (list_all (is_before name) (map child_name cs)) (ascend (map child_name cs)) e))
+    (apart_among p q never cs (second_so (list_all (is_before name) (map child_name cs)) (ascend (map child_name cs)) e))
   where
     by : (a b : Bool) → (a && b) ≡ false → list_all (is_before (child_name c)) (map child_name (filter p cs)) ≡ true
         → list_all (is_before (child_name c)) (map child_name (filter q cs)) ≡ true
@@ -105,7 +106,7 @@ apart_among p q never (c ∷ cs) e =
     by true true one first second rest = cc
     by true false one first second rest = apart_more (child_name c) (map child_name (filter p cs)) (map child_name (filter q cs)) second rest
     by false true one first second rest =
-        and_both (not (list_any (same_name (child_name c)) (map child_name (filter p cs)))) (are_apart (map child_name (filter p cs)) (map child_name (filter q cs)))
+        and_from (not (list_any (same_name (child_name c)) (map child_name (filter p cs)))) (are_apart (map child_name (filter p cs)) (map child_name (filter q cs)))
         (not_before (child_name c) (map child_name (filter p cs)) first) rest
     by false false one first second rest = rest
 
@@ -211,25 +212,25 @@ name_after name rel single after =
 names_after : (name : List ℕ) (xs : List Flat) → list_all (is_after (name ∷ [])) xs ≡ true → list_all (is_before name) (map child_name (filter is_child xs)) ≡ true
 names_after name [] e = refl
 names_after name (x ∷ xs) e =
-    by (is_child x) refl (and_first (is_after (name ∷ []) x) (list_all (is_after (name ∷ [])) xs) e)
-    (names_after name xs (and_second (is_after (name ∷ []) x) (list_all (is_after (name ∷ [])) xs) e))
+    by (is_child x) refl (first_so (is_after (name ∷ []) x) (list_all (is_after (name ∷ [])) xs) e)
+    (names_after name xs (second_so (is_after (name ∷ []) x) (list_all (is_after (name ∷ [])) xs) e))
   where
     by : (b : Bool) → is_child x ≡ b → is_after (name ∷ []) x ≡ true → list_all (is_before name) (map child_name (filter is_child xs)) ≡ true
         → list_all (is_before name) (map child_name (cond b (x ∷ filter is_child xs) (filter is_child xs))) ≡ true
     by true single after rest =
-        and_both (is_before name (child_name x)) (list_all (is_before name) (map child_name (filter is_child xs)))
+        and_from (is_before name (child_name x)) (list_all (is_before name) (map child_name (filter is_child xs)))
         (name_after name x.rel (single_is x.rel single) after) rest
     by false single after rest = rest
 
 pub children_ascend : (nodes : List Flat) → ascends nodes ≡ true → ascend (map child_name (children_of nodes)) ≡ true
 children_ascend [] e = refl
 children_ascend (x ∷ xs) e =
-    by (is_child x) refl (and_first (list_all (is_after x.rel) xs) (ascends xs) e)
-    (children_ascend xs (and_second (list_all (is_after x.rel) xs) (ascends xs) e))
+    by (is_child x) refl (first_so (list_all (is_after x.rel) xs) (ascends xs) e)
+    (children_ascend xs (second_so (list_all (is_after x.rel) xs) (ascends xs) e))
   where
     by : (b : Bool) → is_child x ≡ b → list_all (is_after x.rel) xs ≡ true → ascend (map child_name (filter is_child xs)) ≡ true
         → ascend (map child_name (cond b (x ∷ filter is_child xs) (filter is_child xs))) ≡ true
     by true single after rest =
-        and_both (list_all (is_before (child_name x)) (map child_name (filter is_child xs))) (ascend (map child_name (filter is_child xs)))
+        and_from (list_all (is_before (child_name x)) (map child_name (filter is_child xs))) (ascend (map child_name (filter is_child xs)))
         (names_after (child_name x) xs (ap (λ (r : List (List ℕ)). list_all (is_after r) xs) (sym (single_is x.rel single)) ∙ after)) rest
     by false single after rest = rest

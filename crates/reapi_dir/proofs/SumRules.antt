@@ -1,4 +1,5 @@
 -- The message that a tree's children are meets the rules of one.
+use Rattle.std.specs.Cmp.{first_so, second_so}
 use Rattle.std.proofs.Common.{◌≡◌, ◌≤◌, ◌+◌, ◌*◌, ℕ, zero, suc, Bool, true, ◌&&◌, nat_le, List, [], ◌∷◌, ◌++◌, length, map, drop, Option, Some, None, IfSome, refl, ◌∙◌, sym, ap, subst, arith, length-append}
 use Rattle.std.specs.List.{All, AllByRecursion, cons_option, filter, filter_map, flat_map, list_all}
 use Rattle.std.proofs.lemmas.Bool.{leb-true}
@@ -15,11 +16,10 @@ use Rattle.mat_tree.specs.declared.flat.What.{What}
 use Rattle.mat_tree.specs.declared.flat.What.TheVariants as what
 use Rattle.mat_tree.specs.Messages.{bytes_field, digest_message, dir_message, file_message, flag, link_message, number_field, varint}
 use Rattle.mat_tree.specs.Sums.{children_of, dir_digest, dir_named, dir_part, file_named, file_part, is_child, link_named, link_part, message_by}
-use Rattle.mat_tree.specs.Trees.{has_rel, is_below, is_small, seen_from, sub_tree, what_size}
+use Rattle.mat_tree.specs.Trees.{IsNode, IsWhat, has_rel, is_below, is_small, seen_from, sub_tree, what_size}
 use Rattle.mat_tree.proofs.Varints.{varint_short}
 use Rattle.reapi_dir.specs.Grammar.{IsDir, IsFile, IsLink, greatest_dir}
-use Rattle.reapi_dir.specs.SumMessage.{IsNode, IsWhat, child_dir, child_file, child_link, child_name, dir_node_of, file_node_of, first_name, link_node_of}
-use Rattle.reapi_dir.proofs.BothTests.{and_first, and_second}
+use Rattle.reapi_dir.specs.SumMessage.{child_dir, child_file, child_link, child_name, dir_node_of, file_node_of, first_name, link_node_of}
 use Rattle.reapi_dir.proofs.FlatLevels.{all_follow, all_passing, digest_is_of_message, single_is}
 use Rattle.reapi_dir.proofs.HashBytes.{digest_hash, digest_size, is_digest}
 use Rattle.reapi_dir.proofs.NodeBack.{name_len, target_len}
@@ -40,17 +40,17 @@ pub record IsHeldChild (node : Flat) : Type 0 where
 
 -- the names of a rel are names
 rel_named : (rel : List (List ℕ)) → is_rel rel ≡ true → list_all is_name rel ≡ true
-rel_named rel h = and_second (nat_le (length rel) 64 && nat_le (length (joined rel)) 1024) (list_all is_name rel) h
+rel_named rel h = second_so (nat_le (length rel) 64 && nat_le (length (joined rel)) 1024) (list_all is_name rel) h
 
 pub nodes_held : (nodes : List Flat) → list_all has_rel nodes ≡ true → list_all is_small nodes ≡ true → All IsNode nodes → AllByRecursion IsHeld nodes
 nodes_held [] rels small held = tt
 nodes_held (x ∷ xs) rels small held = (
   record {
-    named = rel_named x.rel (and_first (has_rel x) (list_all has_rel xs) rels);
-    small = and_first (is_small x) (list_all is_small xs) small;
+    named = rel_named x.rel (first_so (has_rel x) (list_all has_rel xs) rels);
+    small = first_so (is_small x) (list_all is_small xs) small;
     held = All-head IsNode x xs held;
   },
-  nodes_held xs (and_second (has_rel x) (list_all has_rel xs) rels) (and_second (is_small x) (list_all is_small xs) small) (All-tail IsNode x xs held),
+  nodes_held xs (second_so (has_rel x) (list_all has_rel xs) rels) (second_so (is_small x) (list_all is_small xs) small) (All-tail IsNode x xs held),
 )
 
 pub children_held : (nodes : List Flat) → AllByRecursion IsHeld nodes → AllByRecursion IsHeldChild (children_of nodes)
@@ -59,7 +59,7 @@ children_held nodes all = all_passing IsHeld IsHeldChild is_child (λ c single h
 all_drop : (k : ℕ) (names : List (List ℕ)) → list_all is_name names ≡ true → list_all is_name (drop k names) ≡ true
 all_drop zero names h = h
 all_drop (suc k) [] h = refl
-all_drop (suc k) (name ∷ names) h = all_drop k names (and_second (is_name name) (list_all is_name names) h)
+all_drop (suc k) (name ∷ names) h = all_drop k names (second_so (is_name name) (list_all is_name names) h)
 
 seen_held : (rel : List (List ℕ)) (node : Flat) → IsHeld node → IsHeld (seen_from rel node)
 seen_held rel node h = record { named = all_drop (length rel) node.rel h.named; small = h.small; held = h.held }
@@ -83,7 +83,7 @@ sub_few rel nodes = omega (arith, length-map (filter (is_below rel) nodes) (seen
 -- a child's name is one
 pub child_named : (c : Flat) → IsHeldChild c → is_name (child_name c) ≡ true
 child_named c h =
-    and_first (is_name (first_name c.rel)) true (ap (list_all is_name) (sym (single_is c.rel h.single)) ∙ h.held.named)
+    first_so (is_name (first_name c.rel)) true (ap (list_all is_name) (sym (single_is c.rel h.single)) ∙ h.held.named)
 
 -- ---- how many bytes a message has
 

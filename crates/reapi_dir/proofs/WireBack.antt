@@ -1,4 +1,5 @@
 -- What is written in the wire form is read as itself, and what is read was written so.
+use Rattle.std.specs.Cmp.{first_so, second_so}
 use Rattle.std.proofs.Common.{◌≡◌, ℕ, zero, suc, ◌+◌, ◌-◌, ◌*◌, ◌/◌, ◌%◌, ◌^◌, ◌<◌, ◌≤◌, nat_lt, nat_le, nat_eq, Bool, true, false, if◌then◌else◌, List, [], ◌∷◌, ◌++◌, length, take, drop, Result, Ok, Err, inl, inr, refl, sym, ap, ◌∙◌, subst, arith, length-append, append_assoc}
 use Rattle.std.proofs.lemmas.Bool.{cases_lt, eq-eqb, eqb-true, le-leb, le-ltb, leb-true, lt-ltb, ltb-true, ne_eqb}
 use Rattle.std.proofs.lemmas.List.{drop-append-le, drop_all, length-take-le, take-append-drop, take-append-le, take_all}
@@ -6,7 +7,6 @@ use Rattle.hex.specs.Hex.{IsBytes}
 use Rattle.mat_tree.specs.Messages.{groups_of, varint}
 use Rattle.reapi_dir.specs.declared.refusal.DirRefusal.{DirRefusal}
 use Rattle.reapi_dir.specs.Wire.{◌>>=◌, field_read, groups_read, key_read, place, varint_read}
-use Rattle.reapi_dir.proofs.BothTests.{and_first, and_second}
 
 -- ---- steps that gave a value
 
@@ -110,8 +110,8 @@ groups_spell (b ∷ more) (suc k) n at end rest h read =
           let with = both_gave _ _ _ steps.2 in
           let passed = test_gave _ _ _ _ with.1 in
           let number : b - 128 + 128 * higher.0 ≡ with.0 = passed.1 in
-          let positive : 0 < higher.0 = ltb-true 0 higher.0 (and_first _ _ passed.0) in
-          let high : higher.0 < 2 ^ 57 = ltb-true higher.0 (2 ^ 57) (and_second _ _ passed.0) in
+          let positive : 0 < higher.0 = ltb-true 0 higher.0 (first_so _ _ passed.0) in
+          let high : higher.0 < 2 ^ 57 = ltb-true higher.0 (2 ^ 57) (second_so _ _ passed.0) in
           let inner = groups_spell more k higher.0 at end higher.1 (λ i. h (suc i)) steps.1 in
           group_spells b k n higher.0 with.0 more higher.1 rest above fits positive high number (same_first with.0 n higher.1 rest with.2)
           (same_second with.0 n higher.1 rest with.2) inner.0

@@ -1,5 +1,6 @@
 -- The grammar of a Directory message (Remote Execution API v2, `Directory`): which bytes spell which message, by one production or side rule each.
 -- The bytes of each field are those of its message in the wire form of Protocol Buffers.
+use Rattle.mat_tree.specs.Trees.{greatest_file}
 use Rattle.std.specs.Prelude.{◌≡◌, ◌≤◌, ℕ, ◌+◌, ◌-◌, ◌^◌, ◌&&◌, Bool, true, not, List, [], ◌∷◌, ◌++◌, length, map}
 use Rattle.std.specs.List.{AllByRecursion, list_all, list_any}
 use Rattle.std.specs.Ordering.{is_lt}
@@ -10,10 +11,6 @@ use Rattle.reapi_dir.specs.declared.message.DirNode.{DirNode}
 use Rattle.reapi_dir.specs.declared.message.LinkNode.{LinkNode}
 use Rattle.reapi_dir.specs.declared.message.DirMessage.{DirMessage}
 use Rattle.reapi_dir.specs.Spelling.{dir_text, file_text, link_text}
-
--- the greatest size of a file
-abbrev pub greatest_file : ℕ
-greatest_file = 67108864
 
 -- the greatest size of a directory
 abbrev pub greatest_dir : ℕ

@@ -1,5 +1,6 @@
 -- What reading a Directory message answers: the message, or the first fault from the left (Remote Execution API v2, `Directory`, `FileNode`,
 -- `DirectoryNode`, `SymlinkNode`, `Digest`). Each definition reads the fields of one production, in order.
+use Rattle.mat_tree.specs.Trees.{greatest_file}
 use Rattle.std.specs.Prelude.{ℕ, zero, suc, ◌-◌, ◌&&◌, nat_le, nat_eq, Bool, true, false, not, if◌then◌else◌, List, [], ◌∷◌, ◌++◌, length, map, slice_get, Option, Some, None, Result, Ok, Err}
 use Rattle.std.specs.List.{list_any}
 use Rattle.std.specs.Option.{option_map}
@@ -13,7 +14,7 @@ use Rattle.reapi_dir.specs.declared.message.LinkNode.{LinkNode}
 use Rattle.reapi_dir.specs.declared.message.DirMessage.{DirMessage}
 use Rattle.reapi_dir.specs.declared.refusal.DirRefusal.{DirRefusal}
 use Rattle.reapi_dir.specs.declared.refusal.DirRefusal.TheVariants as refusal
-use Rattle.reapi_dir.specs.Grammar.{dir_name, file_name, greatest_dir, greatest_file, is_before, link_name, most_children}
+use Rattle.reapi_dir.specs.Grammar.{dir_name, file_name, greatest_dir, is_before, link_name, most_children}
 use Rattle.reapi_dir.specs.Wire.{Read, ◌>>=◌, begins_with, bytes_key, field_read, key_read, last_read, number_key, place, varint_read}
 
 -- the offset at which the bytes of a field begin, which end where those behind it begin

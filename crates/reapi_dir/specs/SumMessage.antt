@@ -14,16 +14,6 @@ use Rattle.reapi_dir.specs.declared.message.DirNode.{DirNode}
 use Rattle.reapi_dir.specs.declared.message.LinkNode.{LinkNode}
 use Rattle.reapi_dir.specs.declared.message.DirMessage.{DirMessage}
 
--- what a node is can be held: a digest of 32 bytes and a size of 64 bits, a target of the bytes that one may have
-abbrev pub IsWhat : What → Type 0
-IsWhat (what.File digest exec) = IsDigest digest
-IsWhat what.Dir = Unit {0}
-IsWhat (what.Link target) = is_target target ≡ true
-
--- the same of a node
-abbrev pub IsNode : Flat → Type 0
-IsNode node = IsWhat node.what
-
 -- the first name of a rel; it is the only one of a child
 abbrev pub first_name : List (List ℕ) → List ℕ
 first_name [] = []

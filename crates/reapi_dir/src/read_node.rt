@@ -11,11 +11,10 @@ use crate::read_name::{read_dir_name, read_file_name, read_link_name, read_targe
 use crate::read_wire::{place, read_key, read_last, read_varint};
 use crate::refusal::DirRefusal;
 use mat_digest::Digest;
+use mat_tree::GREATEST_FILE;
 
 // The key of `is_executable`.
 const IS_EXECUTABLE: u64 = 0x20;
-// The greatest size of a file.
-const GREATEST_FILE: u64 = 67_108_864;
 // The greatest size of a directory.
 const GREATEST_DIR: u64 = (1 << 63) - 1;
 

@@ -5,9 +5,9 @@ ghost use Rattle.mat_digest.specs.Digests.{digest_of};
 ghost use Rattle.mat_tree.specs.declared.flat.Flat.{Flat};
 ghost use Rattle.mat_tree.specs.declared.flat.What.TheVariants as what;
 ghost use Rattle.mat_tree.specs.Sums.{dir_digest, message_by, sum_of};
-ghost use Rattle.mat_tree.specs.Trees.{IsTree, what_at};
+ghost use Rattle.mat_tree.specs.Trees.{IsNode, IsTree, what_at};
 ghost use Rattle.reapi_dir.specs.Grammar.{Spells};
-ghost use Rattle.reapi_dir.specs.SumMessage.{IsNode, children_message_of};
+ghost use Rattle.reapi_dir.specs.SumMessage.{children_message_of};
 
 use crate::message::DirMessage;
 use crate::read::read_dir;

@@ -1,4 +1,6 @@
 -- What a list of entries has at each path, with one more, or with those of one part alone.
+use Rattle.mat_path.proofs.PathLemmas.{prefix-append}
+use Rattle.mat_path.proofs.SameNames.{is_prefix-Decides, same_names-Decides, same_names-behind, same_names-sym}
 use Rattle.std.proofs.Common.{◌≡◌, ℕ, Bool, true, false, cond, not, List, [], ◌∷◌, ◌++◌, length, drop, refl, ap, sym, ◌∙◌, ◌<◌, ◌+◌, take, get_or}
 use Rattle.std.specs.Prelude.{Option, Some, None}
 use Rattle.std.specs.List.{filter, list_all}
@@ -9,7 +11,6 @@ use Rattle.mat_path.specs.Names.{same_names, is_prefix}
 use Rattle.mat_tree.specs.Parts.{below, without, with_node, replaced}
 use Rattle.region_port.specs.Entries.{latest, content_of, node_of, is_entry_at, path_of_entry, is_within, is_outside}
 use Rattle.region_port.specs.declared.entry.Entry.{Entry}
-use Rattle.region_port.proofs.Names.{same_names-Decides, same_names-sym, same_names-behind, is_prefix-Decides, is_prefix_of_joined}
 use Rattle.region_port.proofs.Latest.{latest-append, latest-push, latest-filter, filter_all, option_or-none}
 
 -- an entry more is the node at its path
@@ -43,7 +44,7 @@ content_of-within place entries path =
 pub below-within : (place : List (List ℕ)) (entries : List Entry) → below place (content_of (filter (is_within path_of_entry place) entries)) ≡ below place (content_of entries)
 below-within place entries =
     let each : (q : List (List ℕ)) → below place (content_of (filter (is_within path_of_entry place) entries)) q ≡ below place (content_of entries) q =
-    λ q. content_of-within place entries (place ++ q) ∙ ap (λ b. cond b (content_of entries (place ++ q)) None) (is_prefix_of_joined place q)
+    λ q. content_of-within place entries (place ++ q) ∙ ap (λ b. cond b (content_of entries (place ++ q)) None) (prefix-append place q)
     in λ i q. each q i
 
 -- the other entries

@@ -3,5 +3,4 @@ pub mod Latest
 pub mod Shown
 pub mod Lists
 pub mod Loans
-pub mod Names
 pub mod Marks

@@ -1,4 +1,5 @@
 -- The rough paths of a list, with more paths, or with those of one part alone.
+use Rattle.mat_path.proofs.SameNames.{same_names-Decides}
 use Rattle.std.proofs.Common.{◌≡◌, ℕ, Bool, true, false, ◌||◌, not, List, [], ◌∷◌, ◌++◌, refl, ap, sym, ◌∙◌}
 use Rattle.std.specs.List.{filter}
 use Rattle.std.proofs.lemmas.List.Folds.{list_any-append}
@@ -6,7 +7,6 @@ use Rattle.std.proofs.lemmas.Map.Views.{any-filter_same}
 use Rattle.mat_path.specs.Names.{same_names, is_prefix}
 use Rattle.region_port.specs.Calls.{paths_below, paths_outside, paths_of_both, with_path}
 use Rattle.region_port.specs.Entries.{paths_of, is_within, is_outside}
-use Rattle.region_port.proofs.Names.{same_names-Decides}
 
 pub paths_of-within : (place : List (List ℕ)) (list : List (List (List ℕ))) → paths_of (filter (is_within (λ p. p) place) list) ≡ paths_below place (paths_of list)
 paths_of-within place list =

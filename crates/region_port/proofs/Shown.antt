@@ -1,15 +1,17 @@
 -- Lists of nodes, one entry more.
+use Rattle.mat_path.proofs.SameNames.{is_prefix-Decides, same_names-Decides, same_names-sym}
+use Rattle.mat_tree.proofs.Ascending.{after_head}
 use Rattle.std.proofs.Common.{◌≡◌, ℕ, ◌+◌, ◌≤◌, Bool, true, false, ◌&&◌, cond, List, [], ◌∷◌, ◌++◌, length, drop, map, refl, ap, sym, ◌∙◌, arith, append_assoc, length-append, Bor, take, get_or, ◌<◌}
 use Rattle.std.specs.Prelude.{Option, Some, None, nat_le, Result, Ok, Err, IfOk}
 use Rattle.std.proofs.lemmas.List.{take_more}
-use Rattle.std.specs.List.{list_all, find}
+use Rattle.std.specs.List.{find, list_all}
 use Rattle.std.specs.Option.{option_map, option_or}
 use Rattle.std.proofs.lemmas.List.Folds.{list_all-append}
 use mathlib.Core.Bool.{true≢false}
 use Rattle.std.specs.declared.vec.Vec.{Vec}
 use Rattle.std.specs.declared.alloc.Global.{Global}
 use Rattle.std.proofs.lemmas.List.{append-nil}
-use Rattle.std.proofs.lemmas.Bool.{leb-true, le-leb}
+use Rattle.std.proofs.lemmas.Bool.{and_from, and_parts, le-leb, leb-true}
 use Rattle.std.proofs.lemmas.Option.{same_Some, none-some}
 use Rattle.std.specs.Cmp.{first_so, second_so}
 use Rattle.std.specs.Map.{lookup, keys_of}
@@ -19,13 +21,12 @@ use Rattle.std.specs.List.Sorted.{IsStrictlySortedBy}
 use Rattle.mat_path.specs.Order.{same_names_ties}
 use Rattle.mat_path.specs.Names.{is_rel, is_name, joined, is_prefix, same_names, path_cmp, rest_below}
 use Rattle.mat_tree.specs.Parts.{declared_by, Node}
-use Rattle.mat_tree.specs.Trees.{is_at, what_at, what_of}
+use Rattle.mat_tree.specs.Trees.{ascends, is_after, is_at, what_at, what_of}
 use Rattle.mat_tree.specs.declared.flat.What.{What}
 use Rattle.region_port.specs.declared.entry.Entry.{Entry}
 use Rattle.region_port.specs.Entries.{content_of, node_of}
-use Rattle.region_port.specs.Listing.{ascends, flat_from, flats_of, rels_of, shown}
+use Rattle.region_port.specs.Listing.{flat_from, flats_of, shown}
 use Rattle.region_port.specs.Lists.{all_of}
-use Rattle.region_port.proofs.Names.{is_prefix-Decides, same_names-Decides, same_names-sym}
 use Rattle.region_port.proofs.Content.{content_of-push, content_of-append}
 
 longer : (x rest : List ℕ) → length rest ≤ length (x ++ 47 ∷ rest)
@@ -105,11 +106,16 @@ what_at-flats (pair ∷ pairs) rel = by (same_names pair.0 rel) (is_at_key (path
     by false false e h = h
 
 -- the rels of a map ascend
-pub ascends-flats : (pairs : List (List (List ℕ) × What)) → IsStrictlySortedBy path_cmp (keys_of pairs) → ascends (rels_of (flats_of pairs)) ≡ true
+pub ascends-flats : (pairs : List (List (List ℕ) × What)) → IsStrictlySortedBy path_cmp (keys_of pairs) → ascends (flats_of pairs) ≡ true
 unfolding IsStrictlySortedBy
 ascends-flats [] s = refl
 ascends-flats (pair ∷ []) s = refl
-ascends-flats (pair ∷ next ∷ pairs) s = ap (λ o. is_lt o && ascends (rels_of (flats_of (next ∷ pairs)))) s.0.0 ∙ ascends-flats (next ∷ pairs) s.1
+ascends-flats (pair ∷ next ∷ pairs) s =
+    let rest = ascends-flats (next ∷ pairs) s.1 in
+    let heads = and_parts (list_all (is_after next.0) (flats_of pairs)) (ascends (flats_of pairs)) rest in
+    and_from (list_all (is_after pair.0) (flats_of (next ∷ pairs))) (ascends (flats_of (next ∷ pairs)))
+    (after_head pair.0 (flat_from next) (flats_of pairs) (ap is_lt s.0.0) heads.0)
+    rest
 
 -- one more of a list of entries
 pub shown-more : (path : List (List ℕ)) (entries : List Entry) (i : ℕ) (entry : Entry) (rel : List (List ℕ)) (before : Option What) → i < length entries → entry ≡ get_or entries i entry

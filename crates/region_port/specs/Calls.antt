@@ -62,10 +62,6 @@ Syncs did.Done before now = now ≡ nowhere
 Syncs did.Failed before now = now ≡ before
 Syncs did.NoMemory before now = now ≡ before
 
--- whether a path is another one than this
-abbrev pub is_other_path : List (List ℕ) → List (List ℕ) → Bool
-is_other_path place path = not (same_names place path)
-
 -- a disk's content with a part in its place, where both are told
 abbrev pub with_inner : List (List ℕ) → Option Part → Option Part → Option Part
 with_inner place (Some inner) (Some content) = Some (replaced place inner content)

@@ -1,4 +1,5 @@
 -- A disk in memory, as contracts see it: a list of entries, each a path and the node there.
+use Rattle.mat_io.specs.Causes.{counted, risen}
 use Rattle.std.specs.Prelude.{◌+◌, ◌-◌, ◌^◌, ◌&&◌, ◌||◌, ℕ, min, Bool, false, not, if◌then◌else◌, List, [], ◌∷◌, Option, Some, None}
 use Rattle.std.specs.List.{list_any}
 use Rattle.std.specs.Option.{option_map, option_or}
@@ -53,13 +54,9 @@ is_within place path x = is_prefix path (place x)
 abbrev pub is_outside : {X : Type 0} → (X → List (List ℕ)) → List (List ℕ) → X → Bool
 is_outside place path x = not (is_prefix path (place x))
 
--- one more, but at most the last u64
-abbrev pub risen : ℕ → ℕ
-risen count = min (count + 1) (2 ^ 64 - 1)
-
--- two counts together, but at most the last u64
-abbrev pub counted : ℕ → ℕ → ℕ
-counted count more = min (count + more) (2 ^ 64 - 1)
+-- the counts of a device that nobody has called yet
+abbrev pub no_counts : Counts
+no_counts = record { calls = 0; faults = 0; armed = false }
 
 -- the counts of a disk once a region came back with its own
 abbrev pub joined_counts : Counts → Counts → Counts

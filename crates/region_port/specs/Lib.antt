@@ -3,7 +3,6 @@ pub mod Disks
 pub mod Entries
 pub mod Listing
 pub mod Lists
-pub mod Loans
 pub mod Memory
 pub mod Reads
 pub mod States

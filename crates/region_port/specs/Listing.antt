@@ -9,24 +9,6 @@ use Rattle.mat_tree.specs.declared.flat.What.{What}
 use Rattle.region_port.specs.Entries.{content_of}
 use Rattle.region_port.specs.declared.entry.Entry.{Entry}
 
--- whether a rel comes before the first of some
-abbrev pub comes_first : List (List ℕ) → List (List (List ℕ)) → Bool
-comes_first rel [] = true
-comes_first rel (next ∷ rels) = is_lt (path_cmp rel next)
-
--- whether each rel comes before the next one
-abbrev pub ascends : List (List (List ℕ)) → Bool
-ascends [] = true
-ascends (rel ∷ rels) = comes_first rel rels && ascends rels
-
--- the rel of a node
-abbrev pub rel_of_flat : Flat → List (List ℕ)
-rel_of_flat node = node.rel
-
--- the rels of some nodes
-abbrev pub rels_of : List Flat → List (List (List ℕ))
-rels_of nodes = map rel_of_flat nodes
-
 -- the node of a rel and what stands there
 abbrev pub flat_from : List (List ℕ) × What → Flat
 flat_from pair = record { rel = pair.0; what = pair.1 }

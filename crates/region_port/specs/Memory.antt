@@ -1,7 +1,9 @@
--- What a region in memory holds.
+-- What a region in memory has, where it lies, and what it counts.
+use Rattle.std.specs.Prelude.{ℕ, Bool, List}
 use Rattle.mat_tree.specs.Parts.{Part, below}
 use Rattle.region_port.specs.Calls.{Paths}
 use Rattle.region_port.specs.Entries.{content_of, rough_paths}
+use Rattle.region_port.specs.declared.counts.Counts.{Counts}
 use Rattle.region_port.specs.declared.mem_region.MemRegion.{MemRegion}
 
 -- its part
@@ -11,3 +13,20 @@ part_of region = below region.place (content_of region.nodes.items)
 -- its rough paths
 abbrev pub rough_of : MemRegion → Paths
 rough_of region = rough_paths region.whole region.place region.rough.items
+
+-- the path of its part
+abbrev pub region_place : MemRegion → List (List ℕ)
+region_place region = region.place
+
+-- what it counts: its calls, the faults among them, and whether the next one is to fail
+abbrev pub region_counts : MemRegion → Counts
+region_counts region = region.counts
+
+abbrev pub region_calls : MemRegion → ℕ
+region_calls region = region.counts.calls
+
+abbrev pub region_faults : MemRegion → ℕ
+region_faults region = region.counts.faults
+
+abbrev pub is_region_armed : MemRegion → Bool
+is_region_armed region = region.counts.armed

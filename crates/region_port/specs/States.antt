@@ -1,11 +1,28 @@
--- What settling or emptying a part answers.
+-- What a part in each of its states keeps, and what settling or emptying one answers.
 use Rattle.std.specs.Prelude.{◌≡◌, Bool, true, false, List}
 use Rattle.mat_tree.specs.declared.flat.Flat.{Flat}
 use Rattle.region_port.specs.Calls.{Paths}
 use Rattle.region_port.specs.declared.port.Region.{Ghosts}
+use Rattle.region_port.specs.declared.states.Bare.{Bare}
 use Rattle.region_port.specs.declared.states.Rough.{Rough}
+use Rattle.region_port.specs.declared.states.Settled.{Settled}
 use Rattle.region_port.specs.declared.states.Synced.{Synced}
 use Rattle.region_port.specs.declared.states.Synced.TheVariants as synced
+
+-- the region of a rough part
+abbrev pub rough_region : {R : Type 0} → Rough R → R
+rough_region part = part.region
+
+-- the region and the tree of a settled part
+abbrev pub settled_region : {R : Type 0} {g : Ghosts R} → Settled R g → R
+settled_region part = part.region
+
+abbrev pub settled_tree : {R : Type 0} {g : Ghosts R} → Settled R g → List Flat
+settled_tree part = part.tree
+
+-- the region of a bare part
+abbrev pub bare_region : {R : Type 0} {g : Ghosts R} → Bare R g → R
+bare_region part = part.region
 
 -- the region of an answer
 abbrev pub region_in : {R : Type 0} {g : Ghosts R} → Synced R g → R

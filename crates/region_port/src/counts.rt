@@ -1,6 +1,6 @@
 ghost use Rattle.std.specs.Prelude.{◌≡◌, false, not, nat_eq};
 ghost use Rattle.mat_io.specs.Causes.{HasCause};
-ghost use Rattle.region_port.specs.Entries.{entered, joined_counts};
+ghost use Rattle.region_port.specs.Entries.{entered, joined_counts, no_counts};
 
 /// What a device in memory counts, and whether its next call is to fail.
 #[derive(Debug, Drop)]
@@ -13,7 +13,7 @@ pub struct Counts {
 impl Counts {
     /// No calls and no faults.
     pub(crate) fn new() -> Counts
-        ensures { result ≡ record { calls = 0; faults = 0; armed = false } }
+        ensures { result ≡ no_counts }
     {
         Counts {
             calls: 0,

@@ -3,9 +3,9 @@ ghost use Rattle.std.specs.Option.{option_or};
 ghost use Rattle.std.specs.BTreeMap.{get, IsOrdered};
 ghost use Rattle.mat_path.specs.Names.{is_rel, path_cmp, same_names};
 ghost use Rattle.mat_tree.specs.Parts.{declared_by};
-ghost use Rattle.mat_tree.specs.Trees.{what_at};
+ghost use Rattle.mat_tree.specs.Trees.{ascends, what_at};
 ghost use Rattle.region_port.specs.Entries.{node_kept, node_of};
-ghost use Rattle.region_port.specs.Listing.{ascends, flats_of, rels_of, shown};
+ghost use Rattle.region_port.specs.Listing.{flats_of, shown};
 ghost use Rattle.region_port.specs.Lists.{all_of};
 
 use crate::entry::{DiskNode, Entry};
@@ -111,7 +111,7 @@ pub(crate) fn listed(
     path: &Path,
     entries: &Segments<Entry>,
 ) -> Result<Vec<Flat>, Memory>
-    ensures ascending { IfOk result (λ nodes. ascends (rels_of nodes.items) ≡ true) }
+    ensures ascending { IfOk result (λ nodes. ascends nodes.items ≡ true) }
     ensures ok { IfOk result (λ nodes. (rel : List (List ℕ)) → shown path.now (all_of entries.now.segments.items) rel ≡ what_at nodes.items rel) }
 {
     let nodes = nodes_below(alloc, path, entries)?;

@@ -1,15 +1,15 @@
+ghost use Rattle.mat_path.specs.Covering.{covering, is_other_path};
+ghost use Rattle.mat_tree.specs.Trees.{ascends};
 ghost use Rattle.std.specs.Prelude.{◌≡◌, IfOk, ◌+◌, ◌≤◌, ◌<◌, ◌∷◌, ◌++◌, [], ℕ, List, true, false, not, nat_eq, None, Some};
 ghost use Rattle.std.specs.List.{filter, list_any};
 ghost use Rattle.std.specs.Vec.{vec_len, vec_capacity};
 ghost use Rattle.std.specs.VecDeque.{deque_len, deque_capacity};
 ghost use Rattle.mat_io.specs.Causes.{HasCause};
 ghost use Rattle.mat_path.specs.Names.{is_prefix, overlap, same_names};
-ghost use Rattle.mat_tree.specs.Parts.{bare, below, Holds};
-ghost use Rattle.region_port.specs.Calls.{is_other_path, nowhere, paths_of_both, with_inner};
-ghost use Rattle.region_port.specs.Entries.{content_of, joined_counts, paths_of, rough_paths};
-ghost use Rattle.region_port.specs.Listing.{ascends, rels_of};
+ghost use Rattle.mat_tree.specs.Parts.{bare, below, HasTree};
+ghost use Rattle.region_port.specs.Calls.{nowhere, paths_of_both, with_inner};
+ghost use Rattle.region_port.specs.Entries.{content_of, joined_counts, no_counts, paths_of, rough_paths};
 ghost use Rattle.region_port.specs.Lists.{all_of};
-ghost use Rattle.region_port.specs.Loans.{covering};
 
 use crate::counts::Counts;
 use crate::entry::Entry;
@@ -36,14 +36,14 @@ pub struct MemDisk {
 }
 
 impl MemDisk {
-    ghost use Rattle.region_port.specs.Disks.{disk_content, disk_rough};
+    ghost use Rattle.region_port.specs.Disks.{disk_content, disk_counts, disk_loans, disk_rough};
 
     /// A disk with nothing on it and no loans. Takes no memory yet.
     pub fn new(alloc: Global) -> MemDisk
         ensures content { disk_content result ≡ bare }
-        ensures lent { result.loans.items ≡ [] }
+        ensures lent { disk_loans result ≡ [] }
         ensures rough { disk_rough result ≡ nowhere }
-        ensures counts { result.counts ≡ record { calls = 0; faults = 0; armed = false } }
+        ensures counts { disk_counts result ≡ no_counts }
     {
         MemDisk {
             nodes: Segments::new(alloc),
@@ -55,16 +55,16 @@ impl MemDisk {
 
     /// Whether a loan overlaps the path. Takes no memory.
     pub fn lent(&self, path: &Path) -> bool
-        ensures { result ≡ list_any (overlap path.now) self.now.loans.items }
+        ensures { result ≡ list_any (overlap path.now) (disk_loans self.now) }
     {
         self.loans.iter().any(|loan| path.overlaps(loan))
     }
 
     /// The nodes at and below the path, with rels from it, in strict order of rel.
     pub fn nodes(&self, path: &Path) -> Result<Vec<Flat>, Memory>
-        requires { list_any (overlap path.now) self.now.loans.items ≡ false }
-        ensures ascending { IfOk result (λ nodes. ascends (rels_of nodes.items) ≡ true) }
-        ensures ok { IfOk result (λ nodes. Holds (below path.now (disk_content self.now)) nodes.items) }
+        requires { list_any (overlap path.now) (disk_loans self.now) ≡ false }
+        ensures ascending { IfOk result (λ nodes. ascends nodes.items ≡ true) }
+        ensures ok { IfOk result (λ nodes. HasTree (below path.now (disk_content self.now)) nodes.items) }
     {
         listed(*self.loans.allocator(), path, &self.nodes)
     }
@@ -73,16 +73,16 @@ impl MemDisk {
 impl Disk for MemDisk {
     type R = MemRegion;
 
-    ghost use Rattle.region_port.specs.Disks.{disk_content, disk_rough};
-    ghost use Rattle.region_port.specs.Memory.{part_of, rough_of};
+    ghost use Rattle.region_port.specs.Disks.{disk_content, disk_counts, disk_faults, disk_loans, disk_rough};
+    ghost use Rattle.region_port.specs.Memory.{part_of, region_counts, region_faults, region_place, rough_of};
 
     ghost content = { λ disk. Some (disk_content disk) };
 
-    ghost lent = { λ disk. disk.loans.items };
+    ghost lent = { disk_loans };
 
     ghost rough = { disk_rough };
 
-    ghost fault_count = { λ disk. disk.counts.faults };
+    ghost fault_count = { disk_faults };
 
     fn take(&mut self, path: &Path) -> Result<MemRegion, Memory> {
         let place = path.copy()?;
@@ -104,12 +104,12 @@ impl Disk for MemDisk {
     }
 
     fn give(&mut self, region: MemRegion)
-        requires { list_any (same_names region.place) self.old.loans.items ≡ true }
-        ensures content { Some (disk_content self.new) ≡ with_inner region.place (Some (part_of region)) (Some (disk_content self.old)) }
-        ensures lent { self.new.loans.items ≡ filter (is_other_path region.place) self.old.loans.items }
+        requires { list_any (same_names (region_place region)) (disk_loans self.old) ≡ true }
+        ensures content { Some (disk_content self.new) ≡ with_inner (region_place region) (Some (part_of region)) (Some (disk_content self.old)) }
+        ensures lent { disk_loans self.new ≡ filter (is_other_path (region_place region)) (disk_loans self.old) }
         ensures rough { disk_rough self.new ≡ paths_of_both (disk_rough self.old) (rough_of region) }
-        ensures cause { HasCause self.old.counts.faults self.new.counts.faults (not (nat_eq region.counts.faults 0)) }
-        ensures counts { self.new.counts ≡ joined_counts self.old.counts region.counts }
+        ensures cause { HasCause (disk_faults self.old) (disk_faults self.new) (not (nat_eq (region_faults region) 0)) }
+        ensures counts { disk_counts self.new ≡ joined_counts (disk_counts self.old) (region_counts region) }
     {
         let MemRegion {
             place,
@@ -130,18 +130,18 @@ impl Disk for MemDisk {
 }
 
 impl Arm for MemDisk {
-    ghost use Rattle.region_port.specs.Disks.{disk_content, disk_rough};
+    ghost use Rattle.region_port.specs.Disks.{disk_calls, disk_content, disk_faults, disk_loans, disk_rough, is_disk_armed};
 
-    ghost armed = { λ disk. disk.counts.armed };
+    ghost armed = { is_disk_armed };
 
-    ghost calls_made = { λ disk. disk.counts.calls };
+    ghost calls_made = { disk_calls };
 
     fn arm(&mut self)
-        ensures armed { self.new.counts.armed ≡ true }
-        ensures calls { self.new.counts.calls ≡ self.old.counts.calls }
-        ensures faults { self.new.counts.faults ≡ self.old.counts.faults }
+        ensures armed { is_disk_armed self.new ≡ true }
+        ensures calls { disk_calls self.new ≡ disk_calls self.old }
+        ensures faults { disk_faults self.new ≡ disk_faults self.old }
         ensures content { disk_content self.new ≡ disk_content self.old }
-        ensures lent { self.new.loans.items ≡ self.old.loans.items }
+        ensures lent { disk_loans self.new ≡ disk_loans self.old }
         ensures rough { disk_rough self.new ≡ disk_rough self.old }
     {
         self.counts.armed = true;

@@ -34,27 +34,27 @@ pub struct MemRegion {
 }
 
 impl Region for MemRegion {
-    ghost use Rattle.region_port.specs.Memory.{part_of, rough_of};
+    ghost use Rattle.region_port.specs.Memory.{is_region_armed, part_of, region_counts, region_faults, region_place, rough_of};
 
-    ghost place = { λ region. region.place };
+    ghost place = { region_place };
 
     ghost part = { λ region. Some (part_of region) };
 
     ghost rough = { rough_of };
 
-    ghost fault_count = { λ region. region.counts.faults };
+    ghost fault_count = { region_faults };
 
     fn path(&self) -> &Path {
         &self.place
     }
 
     fn wipe(&mut self) -> Did
-        ensures place { self.new.place ≡ self.old.place }
+        ensures place { region_place self.new ≡ region_place self.old }
         ensures part { Wipes result (Some (part_of self.old)) (Some (part_of self.new)) }
-        ensures rough { Roughens self.old.place result (rough_of self.old) (rough_of self.new) }
-        ensures cause { HasCause self.old.counts.faults self.new.counts.faults (did_failed result) }
-        ensures counts { self.new.counts ≡ entered self.old.counts }
-        ensures armed { did_failed result ≡ self.old.counts.armed }
+        ensures rough { Roughens (region_place self.old) result (rough_of self.old) (rough_of self.new) }
+        ensures cause { HasCause (region_faults self.old) (region_faults self.new) (did_failed result) }
+        ensures counts { region_counts self.new ≡ entered (region_counts self.old) }
+        ensures armed { did_failed result ≡ is_region_armed self.old }
         ensures room { wants_memory result ≡ false }
         ensures same { IfNotDone result ((part_of self.new ≡ part_of self.old) × (rough_of self.new ≡ rough_of self.old)) }
     {
@@ -67,13 +67,13 @@ impl Region for MemRegion {
     }
 
     fn put_file(&mut self, rel: &Rel, exec: bool, bytes: &[u8]) -> Did
-        requires { is_path (self.old.place ++ rel.now) ≡ true }
-        ensures place { self.new.place ≡ self.old.place }
+        requires { is_path (region_place self.old ++ rel.now) ≡ true }
+        ensures place { region_place self.new ≡ region_place self.old }
         ensures part { Puts rel.now (file bytes.now exec) result (Some (part_of self.old)) (Some (part_of self.new)) }
-        ensures rough { Roughens self.old.place result (rough_of self.old) (rough_of self.new) }
-        ensures cause { HasCause self.old.counts.faults self.new.counts.faults (did_failed result) }
-        ensures counts { self.new.counts ≡ entered self.old.counts }
-        ensures armed { did_failed result ≡ self.old.counts.armed }
+        ensures rough { Roughens (region_place self.old) result (rough_of self.old) (rough_of self.new) }
+        ensures cause { HasCause (region_faults self.old) (region_faults self.new) (did_failed result) }
+        ensures counts { region_counts self.new ≡ entered (region_counts self.old) }
+        ensures armed { did_failed result ≡ is_region_armed self.old }
         ensures same { IfNotDone result ((part_of self.new ≡ part_of self.old) × (rough_of self.new ≡ rough_of self.old)) }
     {
         if !self.counts.enter() {
@@ -86,13 +86,13 @@ impl Region for MemRegion {
     }
 
     fn put_dir(&mut self, rel: &Rel) -> Did
-        requires { is_path (self.old.place ++ rel.now) ≡ true }
-        ensures place { self.new.place ≡ self.old.place }
+        requires { is_path (region_place self.old ++ rel.now) ≡ true }
+        ensures place { region_place self.new ≡ region_place self.old }
         ensures part { Puts rel.now folder result (Some (part_of self.old)) (Some (part_of self.new)) }
-        ensures rough { Roughens self.old.place result (rough_of self.old) (rough_of self.new) }
-        ensures cause { HasCause self.old.counts.faults self.new.counts.faults (did_failed result) }
-        ensures counts { self.new.counts ≡ entered self.old.counts }
-        ensures armed { did_failed result ≡ self.old.counts.armed }
+        ensures rough { Roughens (region_place self.old) result (rough_of self.old) (rough_of self.new) }
+        ensures cause { HasCause (region_faults self.old) (region_faults self.new) (did_failed result) }
+        ensures counts { region_counts self.new ≡ entered (region_counts self.old) }
+        ensures armed { did_failed result ≡ is_region_armed self.old }
         ensures same { IfNotDone result ((part_of self.new ≡ part_of self.old) × (rough_of self.new ≡ rough_of self.old)) }
     {
         if !self.counts.enter() {
@@ -102,13 +102,13 @@ impl Region for MemRegion {
     }
 
     fn put_link(&mut self, rel: &Rel, target: &Target) -> Did
-        requires { is_path (self.old.place ++ rel.now) ≡ true }
-        ensures place { self.new.place ≡ self.old.place }
+        requires { is_path (region_place self.old ++ rel.now) ≡ true }
+        ensures place { region_place self.new ≡ region_place self.old }
         ensures part { Puts rel.now (link target.now) result (Some (part_of self.old)) (Some (part_of self.new)) }
-        ensures rough { Roughens self.old.place result (rough_of self.old) (rough_of self.new) }
-        ensures cause { HasCause self.old.counts.faults self.new.counts.faults (did_failed result) }
-        ensures counts { self.new.counts ≡ entered self.old.counts }
-        ensures armed { did_failed result ≡ self.old.counts.armed }
+        ensures rough { Roughens (region_place self.old) result (rough_of self.old) (rough_of self.new) }
+        ensures cause { HasCause (region_faults self.old) (region_faults self.new) (did_failed result) }
+        ensures counts { region_counts self.new ≡ entered (region_counts self.old) }
+        ensures armed { did_failed result ≡ is_region_armed self.old }
         ensures same { IfNotDone result ((part_of self.new ≡ part_of self.old) × (rough_of self.new ≡ rough_of self.old)) }
     {
         if !self.counts.enter() {
@@ -121,14 +121,14 @@ impl Region for MemRegion {
     }
 
     fn read_file(&mut self, rel: &Rel) -> Got
-        requires { is_path (self.old.place ++ rel.now) ≡ true }
-        ensures place { self.new.place ≡ self.old.place }
+        requires { is_path (region_place self.old ++ rel.now) ≡ true }
+        ensures place { region_place self.new ≡ region_place self.old }
         ensures part { Some (part_of self.new) ≡ Some (part_of self.old) }
         ensures rough { rough_of self.new ≡ rough_of self.old }
         ensures got { Reads rel.now (Some (part_of self.old)) result }
-        ensures cause { HasCause self.old.counts.faults self.new.counts.faults (got_failed result) }
-        ensures counts { self.new.counts ≡ entered self.old.counts }
-        ensures armed { got_failed result ≡ self.old.counts.armed }
+        ensures cause { HasCause (region_faults self.old) (region_faults self.new) (got_failed result) }
+        ensures counts { region_counts self.new ≡ entered (region_counts self.old) }
+        ensures armed { got_failed result ≡ is_region_armed self.old }
     {
         if !self.counts.enter() {
             return Got::Failed;
@@ -137,12 +137,12 @@ impl Region for MemRegion {
     }
 
     fn sync(&mut self) -> Did
-        ensures place { self.new.place ≡ self.old.place }
+        ensures place { region_place self.new ≡ region_place self.old }
         ensures part { part_of self.new ≡ part_of self.old }
         ensures rough { Syncs result (rough_of self.old) (rough_of self.new) }
-        ensures cause { HasCause self.old.counts.faults self.new.counts.faults (did_failed result) }
-        ensures counts { self.new.counts ≡ entered self.old.counts }
-        ensures armed { did_failed result ≡ self.old.counts.armed }
+        ensures cause { HasCause (region_faults self.old) (region_faults self.new) (did_failed result) }
+        ensures counts { region_counts self.new ≡ entered (region_counts self.old) }
+        ensures armed { did_failed result ≡ is_region_armed self.old }
         ensures room { wants_memory result ≡ false }
     {
         if !self.counts.enter() {
@@ -159,15 +159,15 @@ impl Region for MemRegion {
 }
 
 impl MemRegion {
-    ghost use Rattle.region_port.specs.Memory.{part_of, rough_of};
+    ghost use Rattle.region_port.specs.Memory.{part_of, region_counts, region_place, rough_of};
 
     /// Puts a node in the place of what the part has at the rel.
     fn put(&mut self, rel: &Rel, node: DiskNode) -> Did
-        requires { is_path (self.old.place ++ rel.now) ≡ true }
-        ensures place { self.new.place ≡ self.old.place }
+        requires { is_path (region_place self.old ++ rel.now) ≡ true }
+        ensures place { region_place self.new ≡ region_place self.old }
         ensures part { Puts rel.now (node_kept node) result (Some (part_of self.old)) (Some (part_of self.new)) }
-        ensures rough { Roughens self.old.place result (rough_of self.old) (rough_of self.new) }
-        ensures counts { self.new.counts ≡ self.old.counts }
+        ensures rough { Roughens (region_place self.old) result (rough_of self.old) (rough_of self.new) }
+        ensures counts { region_counts self.new ≡ region_counts self.old }
         ensures answer { did_failed result ≡ false }
         ensures same { IfNotDone result ((part_of self.new ≡ part_of self.old) × (rough_of self.new ≡ rough_of self.old)) }
     {
@@ -198,17 +198,17 @@ impl MemRegion {
 }
 
 impl Arm for MemRegion {
-    ghost use Rattle.region_port.specs.Memory.{part_of, rough_of};
+    ghost use Rattle.region_port.specs.Memory.{is_region_armed, part_of, region_calls, region_faults, region_place, rough_of};
 
-    ghost armed = { λ region. region.counts.armed };
+    ghost armed = { is_region_armed };
 
-    ghost calls_made = { λ region. region.counts.calls };
+    ghost calls_made = { region_calls };
 
     fn arm(&mut self)
-        ensures armed { self.new.counts.armed ≡ true }
-        ensures calls { self.new.counts.calls ≡ self.old.counts.calls }
-        ensures place { self.new.place ≡ self.old.place }
-        ensures same { (part_of self.new ≡ part_of self.old) × (rough_of self.new ≡ rough_of self.old) × (self.new.counts.faults ≡ self.old.counts.faults) }
+        ensures armed { is_region_armed self.new ≡ true }
+        ensures calls { region_calls self.new ≡ region_calls self.old }
+        ensures place { region_place self.new ≡ region_place self.old }
+        ensures same { (part_of self.new ≡ part_of self.old) × (rough_of self.new ≡ rough_of self.old) × (region_faults self.new ≡ region_faults self.old) }
     {
         self.counts.armed = true;
     }

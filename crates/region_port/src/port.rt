@@ -1,3 +1,4 @@
+ghost use Rattle.mat_path.specs.Covering.{is_other_path};
 ghost use Rattle.std.specs.Prelude.{◌≡◌, ◌∷◌, ◌++◌, [], true, false, not, if◌then◌else◌, ℕ, Bool, List, Option, IfOk, is_ok, nat_eq};
 ghost use Rattle.std.specs.List.{list_any, filter};
 ghost use Rattle.std.specs.Option.{option_map};
@@ -6,7 +7,7 @@ ghost use Rattle.mat_io.specs.Causes.{HasCause};
 ghost use Rattle.mat_path.specs.Names.{is_path, overlap, same_names};
 ghost use Rattle.mat_tree.specs.Parts.{Part, file, folder, link, below, without};
 ghost use Rattle.region_port.specs.Reads.{Reads, got_failed};
-ghost use Rattle.region_port.specs.Calls.{Wipes, Puts, Roughens, Syncs, paths_below, paths_outside, paths_of_both, with_inner, is_other_path};
+ghost use Rattle.region_port.specs.Calls.{Wipes, Puts, Roughens, Syncs, paths_below, paths_outside, paths_of_both, with_inner};
 
 use crate::got::Got;
 use mat_io::Did;

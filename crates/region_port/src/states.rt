@@ -1,6 +1,6 @@
 ghost use Rattle.std.specs.Prelude.{◌≡◌};
 ghost use Rattle.std.specs.Option.{ForSome};
-ghost use Rattle.mat_tree.specs.Parts.{Holds, bare};
+ghost use Rattle.mat_tree.specs.Parts.{HasTree, bare};
 ghost use Rattle.region_port.specs.Calls.{nowhere};
 
 use crate::port::Region;
@@ -14,12 +14,12 @@ pub struct Rough<R: Region> {
     region: R,
 }
 
-/// A part that holds just a tree, and survives a crash.
+/// A part that has just a tree, and survives a crash.
 #[derive(Drop)]
 pub struct Settled<R: Region> {
     region: R,
     tree: Tree,
-    ghost holds: { ForSome (R.part region) (λ part. Holds part tree) },
+    ghost has_tree: { ForSome (R.part region) (λ part. HasTree part tree) },
     ghost settled: { R.rough region ≡ nowhere },
 }
 
@@ -52,18 +52,18 @@ impl<R: Region> Rough<R> {
     ghost use Rattle.mat_io.specs.Causes.{HasCause};
     ghost use Rattle.std.specs.Borrow.{Lends, sem};
     ghost use Rattle.region_port.specs.contracts.states.Rough.{the_row};
-    ghost use Rattle.region_port.specs.States.{Empties, Settles, region_in, sync_failed, with_region};
+    ghost use Rattle.region_port.specs.States.{Empties, Settles, region_in, rough_region, sync_failed, with_region};
 
     /// The part of this region. Takes no memory.
     pub fn new(region: R) -> Rough<R>
-        ensures { result.region ≡ region }
+        ensures { rough_region result ≡ region }
     {
         Rough { region }
     }
 
     /// Where the part stands. Takes no memory.
     pub fn path(&self) -> &Path
-        ensures { result.now ≡ R.place self.now.region }
+        ensures { result.now ≡ R.place (rough_region self.now) }
     {
         self.region.path()
     }
@@ -71,26 +71,26 @@ impl<R: Region> Rough<R> {
     /// Lends the region for its calls. Takes no memory.
     pub fn region(&mut self) -> &mut R
         ensures* writes_back { sem 𝓛 (Lends (the_row R.row) R.row self.entry result (with_region self.old)) }
-        ensures value { result.now ≡ self.old.region }
+        ensures value { result.now ≡ rough_region self.old }
     {
         &mut self.region
     }
 
     /// The region. Takes no memory.
     pub fn into_region(self) -> R
-        ensures { result ≡ self.region }
+        ensures { result ≡ rough_region self }
     {
         let Rough { region } = self;
         region
     }
 
-    /// Makes one sync, and keeps the tree that the part holds where it is done.
+    /// Makes one sync, and keeps the tree that the part has, where it is done.
     pub fn settle(self, tree: Tree) -> Synced<R>
-        requires { ForSome (R.part self.region) (λ part. Holds part tree) }
-        ensures place { R.place (region_in result) ≡ R.place self.region }
-        ensures part { R.part (region_in result) ≡ R.part self.region }
-        ensures settles { Settles tree (R.rough self.region) result }
-        ensures cause { HasCause (R.fault_count self.region) (R.fault_count (region_in result)) (sync_failed result) }
+        requires { ForSome (R.part (rough_region self)) (λ part. HasTree part tree) }
+        ensures place { R.place (region_in result) ≡ R.place (rough_region self) }
+        ensures part { R.part (region_in result) ≡ R.part (rough_region self) }
+        ensures settles { Settles tree (R.rough (rough_region self)) result }
+        ensures cause { HasCause (R.fault_count (rough_region self)) (R.fault_count (region_in result)) (sync_failed result) }
     {
         let Rough { mut region } = self;
         match region.sync() {
@@ -102,11 +102,11 @@ impl<R: Region> Rough<R> {
 
     /// Makes one sync of a part that has no node.
     pub fn empty(self) -> Synced<R>
-        requires { ForSome (R.part self.region) (λ part. part ≡ bare) }
-        ensures place { R.place (region_in result) ≡ R.place self.region }
-        ensures part { R.part (region_in result) ≡ R.part self.region }
-        ensures empties { Empties (R.rough self.region) result }
-        ensures cause { HasCause (R.fault_count self.region) (R.fault_count (region_in result)) (sync_failed result) }
+        requires { ForSome (R.part (rough_region self)) (λ part. part ≡ bare) }
+        ensures place { R.place (region_in result) ≡ R.place (rough_region self) }
+        ensures part { R.part (region_in result) ≡ R.part (rough_region self) }
+        ensures empties { Empties (R.rough (rough_region self)) result }
+        ensures cause { HasCause (R.fault_count (rough_region self)) (R.fault_count (region_in result)) (sync_failed result) }
     {
         let Rough { mut region } = self;
         match region.sync() {
@@ -118,26 +118,28 @@ impl<R: Region> Rough<R> {
 }
 
 impl<R: Region> Settled<R> {
-    /// The tree that the part holds. Takes no memory.
+    ghost use Rattle.region_port.specs.States.{settled_region, settled_tree};
+
+    /// The tree that the part has. Takes no memory.
     pub fn tree(&self) -> &Tree
-        ensures tree { result.now ≡ self.now.tree }
-        ensures holds { ForSome (R.part self.now.region) (λ part. Holds part self.now.tree) }
-        ensures settled { R.rough self.now.region ≡ nowhere }
+        ensures tree { result.now ≡ settled_tree self.now }
+        ensures has_tree { ForSome (R.part (settled_region self.now)) (λ part. HasTree part (settled_tree self.now)) }
+        ensures settled { R.rough (settled_region self.now) ≡ nowhere }
     {
         &self.tree
     }
 
     /// Where the part stands. Takes no memory.
     pub fn path(&self) -> &Path
-        ensures { result.now ≡ R.place self.now.region }
+        ensures { result.now ≡ R.place (settled_region self.now) }
     {
         self.region.path()
     }
 
     /// The region, without its tree. Takes no memory.
     pub fn into_region(self) -> R
-        ensures region { result ≡ self.region }
-        ensures holds { ForSome (R.part result) (λ part. Holds part self.tree) }
+        ensures region { result ≡ settled_region self }
+        ensures has_tree { ForSome (R.part result) (λ part. HasTree part (settled_tree self)) }
         ensures settled { R.rough result ≡ nowhere }
     {
         let Settled { region, tree: _ } = self;
@@ -146,16 +148,18 @@ impl<R: Region> Settled<R> {
 }
 
 impl<R: Region> Bare<R> {
+    ghost use Rattle.region_port.specs.States.{bare_region};
+
     /// Where the part stands. Takes no memory.
     pub fn path(&self) -> &Path
-        ensures { result.now ≡ R.place self.now.region }
+        ensures { result.now ≡ R.place (bare_region self.now) }
     {
         self.region.path()
     }
 
     /// The region. Takes no memory.
     pub fn into_region(self) -> R
-        ensures region { result ≡ self.region }
+        ensures region { result ≡ bare_region self }
         ensures empty { ForSome (R.part result) (λ part. part ≡ bare) }
         ensures settled { R.rough result ≡ nowhere }
     {

@@ -23,8 +23,7 @@ use Rattle.mat_tree.specs.declared.flat.Flat.{Flat}
 use Rattle.mat_tree.specs.declared.sum.Kind.{Kind}
 use Rattle.mat_tree.specs.declared.sum.Kind.TheVariants as kind
 use Rattle.mat_tree.specs.declared.sum.Sum.{Sum}
-use Rattle.mat_tree.specs.Trees.{IsTree}
-use Rattle.tree_words.specs.Answers.{IsNode}
+use Rattle.mat_tree.specs.Trees.{IsNode, IsTree, is_placed}
 use Rattle.tree_words.specs.Rests.{words_of}
 use Rattle.tree_words.specs.Words.{at_kind, node_words, read_from, text_of, tree_of}
 use Rattle.tree_words.proofs.Clear.{IsClear, clear_nodes, words_back}
@@ -36,7 +35,7 @@ use Rattle.script_lang.specs.declared.items.Line.TheVariants as line
 use Rattle.script_lang.specs.declared.items.Pick.{Pick}
 use Rattle.script_lang.specs.declared.items.Pick.TheVariants as pick
 use Rattle.script_lang.specs.Bounds.{HasBounds, HasRequestBounds}
-use Rattle.script_lang.specs.Items.{a_sum, has_place, item_of, placed, with_one, with_three, with_two}
+use Rattle.script_lang.specs.Items.{a_sum, item_of, placed, with_one, with_three, with_two}
 use Rattle.script_lang.specs.Lines.{is_end, is_skipped, item_line, line_limit, line_of}
 use Rattle.script_lang.specs.Spelled.{bytes_of, device_of, digest_of, is_hex, kind_of, mode_of, pick_of, same_word, tree_spelled}
 use Rattle.script_lang.specs.Texts.{device_text, kind_text}
@@ -112,7 +111,7 @@ spelled_back (node ∷ nodes) h held =
     ∙ ap result_ok (tree_back (node ∷ nodes) h held)
 
 placed_back : (path : List (List ℕ)) (tree : List Flat) (o : Option (List (List ℕ))) (t : Option (List Flat)) → o ≡ Some path → t ≡ Some tree
-    → list_all (has_place path) tree ≡ true → placed o t ≡ Some tree
+    → list_all (is_placed path) tree ≡ true → placed o t ≡ Some tree
 placed_back path tree o t path_is tree_is fits = ap₂ placed path_is tree_is ∙ ap (λ (b : Bool). if b then Some tree else None) fits
 
 -- ---- items

@@ -1,4 +1,5 @@
 -- An item that a line says is within its bounds.
+use Rattle.mat_tree.specs.Trees.{is_placed}
 use Rattle.std.proofs.Common.{◌≡◌, ℕ, ◌^◌, ◌<◌, ◌≤◌, Bool, true, false, nat_le, nat_lt, if◌then◌else◌, List, [], ◌∷◌, Option, Some, None, refl, subst}
 use Rattle.std.specs.List.{list_all}
 use Rattle.std.proofs.lemmas.Bool.{leb-true, ltb-true}
@@ -13,7 +14,7 @@ use Rattle.script_lang.specs.declared.verbs.Asking.TheVariants as asking
 use Rattle.script_lang.specs.declared.verbs.Doing.{Doing}
 use Rattle.script_lang.specs.declared.verbs.Doing.TheVariants as doing
 use Rattle.script_lang.specs.Bounds.{HasBounds, HasRequestBounds}
-use Rattle.script_lang.specs.Items.{Word, at_of, blob_of, clean_of, copy_of, declare_of, enter_of, ensure_of, fail_of, four_of, has_of, has_place, invalidate_of, item_behind, item_of, leave_of, lie_of, match_of, none_of, one_of, other_of, placed, request_of, show_of, step_of, stop_of, three_of, two_and_more_of, two_of, with_one, with_three, with_two, write_of}
+use Rattle.script_lang.specs.Items.{Word, at_of, blob_of, clean_of, copy_of, declare_of, enter_of, ensure_of, fail_of, four_of, has_of, invalidate_of, item_behind, item_of, leave_of, lie_of, match_of, none_of, one_of, other_of, placed, request_of, show_of, step_of, stop_of, three_of, two_and_more_of, two_of, with_one, with_three, with_two, write_of}
 use Rattle.script_lang.specs.Spelled.{at_least_one, below, command_of, count_of, number_of, tree_spelled}
 use Rattle.script_lang.specs.Verbs.{asking_of, doing_of}
 
@@ -55,14 +56,14 @@ least_bound (Some m) n h = by_test (nat_le 1 m) refl h
     by_test false e same = absurd cc
 
 placed_bound : (o : Option (List (List ℕ))) (t : Option (List Flat)) (path : List (List ℕ)) (tree : List Flat) → o ≡ Some path → placed o t ≡ Some tree
-    → list_all (has_place path) tree ≡ true
+    → list_all (is_placed path) tree ≡ true
 placed_bound None t path tree is h = absurd cc
 placed_bound (Some p) None path tree is h = absurd cc
 placed_bound (Some p) (Some ns) path tree is h =
-    subst (λ (q : List (List ℕ)). list_all (has_place q) tree ≡ true) (let s : p ≡ path = cc in s) (by_test (list_all (has_place p) ns) refl h)
+    subst (λ (q : List (List ℕ)). list_all (is_placed q) tree ≡ true) (let s : p ≡ path = cc in s) (by_test (list_all (is_placed p) ns) refl h)
   where
-    by_test : (b : Bool) → list_all (has_place p) ns ≡ b → (if b then Some ns else None) ≡ Some tree → list_all (has_place p) tree ≡ true
-    by_test true e same = subst (λ (t : List Flat). list_all (has_place p) t ≡ true) (let s : ns ≡ tree = cc in s) e
+    by_test : (b : Bool) → list_all (is_placed p) ns ≡ b → (if b then Some ns else None) ≡ Some tree → list_all (is_placed p) tree ≡ true
+    by_test true e same = subst (λ (t : List Flat). list_all (is_placed p) t ≡ true) (let s : ns ≡ tree = cc in s) e
     by_test false e same = absurd cc
 
 -- ---- requests

@@ -14,7 +14,7 @@ use Rattle.mat_tree.specs.declared.flat.Flat.{Flat}
 use Rattle.mat_tree.specs.declared.flat.What.TheVariants as what
 use Rattle.mat_tree.specs.declared.refusal.TreeRefusal.{TreeRefusal}
 use Rattle.mat_tree.specs.declared.sum.Sum.{Sum}
-use Rattle.mat_tree.specs.Trees.{tree_refusal}
+use Rattle.mat_tree.specs.Trees.{is_placed, tree_refusal}
 use Rattle.tree_words.specs.Rests.{words_of}
 use Rattle.tree_words.specs.Words.{Place, Reading, at_digest, at_kind, at_rel, at_target, behind_kind, digest_spelled, file_word, fitting, node_before, node_words, read_from, small_digest, text_of, tree_of, unless_refused, what_words}
 use Rattle.script_lang.specs.declared.items.Item.{Item}
@@ -23,7 +23,7 @@ use Rattle.script_lang.specs.declared.verbs.Asking.{Asking}
 use Rattle.script_lang.specs.declared.verbs.Asking.TheVariants as asking
 use Rattle.script_lang.specs.declared.verbs.Doing.{Doing}
 use Rattle.script_lang.specs.declared.verbs.Doing.TheVariants as doing
-use Rattle.script_lang.specs.Items.{Word, a_sum, at_of, blob_of, clean_of, copy_of, declare_of, enter_of, ensure_of, fail_of, four_of, has_of, has_place, invalidate_of, item_behind, item_of, leave_of, lie_of, match_of, none_of, one_of, other_of, placed, request_of, show_of, step_of, stop_of, three_of, two_and_more_of, two_of, with_two, write_of}
+use Rattle.script_lang.specs.Items.{Word, a_sum, at_of, blob_of, clean_of, copy_of, declare_of, enter_of, ensure_of, fail_of, four_of, has_of, invalidate_of, item_behind, item_of, leave_of, lie_of, match_of, none_of, one_of, other_of, placed, request_of, show_of, step_of, stop_of, three_of, two_and_more_of, two_of, with_two, write_of}
 use Rattle.script_lang.specs.Spelled.{command_of, digest_of, kind_of, same_word, tree_spelled}
 use Rattle.script_lang.specs.Texts.{kind_text}
 use Rattle.script_lang.specs.Verbs.{asking_of, doing_of}
@@ -230,7 +230,7 @@ copy_words ws (Some w) r is h =
 placed_is : (o : Option (List (List ℕ))) (t : Option (List Flat)) (tree : List Flat) → placed o t ≡ Some tree → t ≡ Some tree
 placed_is None t tree h = absurd cc
 placed_is (Some p) None tree h = absurd cc
-placed_is (Some p) (Some ns) tree h = by_test (list_all (has_place p) ns) h
+placed_is (Some p) (Some ns) tree h = by_test (list_all (is_placed p) ns) h
   where
     by_test : (b : Bool) → (if b then Some ns else None) ≡ Some tree → Some ns ≡ Some tree
     by_test true same = same

@@ -1,6 +1,5 @@
 pub mod NumberLemmas
 pub mod WordLemmas
-pub mod PathJoins
 pub mod ClearLemmas
 pub mod BackLemmas
 pub mod BoundsLemmas

@@ -5,7 +5,7 @@ use Rattle.std.specs.Char.{is_ascii_digit}
 use Rattle.std.specs.List.{list_all}
 use Rattle.std.specs.Result.{result_ok, result_unwrap_or}
 use Rattle.std.specs.Str.Parse.{digits_value}
-use Rattle.std.proofs.lemmas.Bool.{and_parts, eqb-true, ltb-true}
+use Rattle.std.proofs.lemmas.Bool.{and_parts, eqb-true, ltb-true, not-true}
 use Rattle.std.proofs.lemmas.Bool.Decides.{Decides-eqb, nat_tests}
 use Rattle.std.proofs.lemmas.Fmt.{decimal-digits_value}
 use Rattle.std.proofs.lemmas.List.Splits.{join_with_byte-slice_split}
@@ -71,10 +71,6 @@ pick_is w p h =
 alone : (n first : ℕ) → 0 < n → (nat_lt 1 n && first == 48) ≡ false → first ≡ 48 → n ≡ 1
 alone n first some h zero = grind (arith, nat_tests)
 
-not_is : (t : Bool) → not t ≡ true → t ≡ false
-not_is true h = absurd cc
-not_is false h = refl
-
 number_is : (w : List ℕ) (n : ℕ) → number_of w ≡ Some n → n < 2 ^ 64 → w ≡ decimal n
 number_is w n h fits = by_test (is_number w) refl h
   where
@@ -82,7 +78,7 @@ number_is w n h fits = by_test (is_number w) refl h
     by_test true e same =
         let value : digits_value 10 w ≡ n = cc in
         let parts = number_parts w e in
-        let lone = not_is (has_leading_zero w) (and_parts (nat_lt 0 (length w) && list_all is_ascii_digit w) (not (has_leading_zero w)) e).1 in
+        let lone = not-true (has_leading_zero w) (and_parts (nat_lt 0 (length w) && list_all is_ascii_digit w) (not (has_leading_zero w)) e).1 in
         sym (decimal-digits_value digits_model w parts.1 parts.0 (λ zero. alone (length w) (slice_index w 0) parts.0 lone zero)
         (subst (λ (k : ℕ). k < 2 ^ 64) (sym value) fits))
         ∙ ap decimal value

@@ -1,4 +1,5 @@
 -- The items that a line may ask for.
+use Rattle.mat_tree.specs.Trees.{is_placed}
 use Rattle.std.specs.Prelude.{◌≡◌, ℕ, ◌^◌, ◌<◌, ◌≤◌, true}
 use Rattle.std.specs.List.{list_all}
 use Rattle.mat_model.specs.declared.requests.Request.{Request}
@@ -7,14 +8,13 @@ use Rattle.script_lang.specs.declared.items.Item.{Item}
 use Rattle.script_lang.specs.declared.items.Item.TheVariants as item
 use Rattle.script_lang.specs.declared.items.Line.{Line}
 use Rattle.script_lang.specs.declared.items.Line.TheVariants as line
-use Rattle.script_lang.specs.Items.{has_place}
 
 -- what the language asks of a request beyond what its type holds
 abbrev pub HasRequestBounds : Request → Type 0
 HasRequestBounds (request.Enter command state) = Unit {0}
 HasRequestBounds (request.Leave command) = Unit {0}
 HasRequestBounds (request.Write command path bytes) = Unit {0}
-HasRequestBounds (request.Declare command path tree) = list_all (has_place path) tree ≡ true
+HasRequestBounds (request.Declare command path tree) = list_all (is_placed path) tree ≡ true
 HasRequestBounds (request.Copy command path source) = Unit {0}
 HasRequestBounds (request.Matches command path sum) = Unit {0}
 HasRequestBounds (request.Has command path) = Unit {0}

@@ -1,4 +1,5 @@
 -- The forms of lines: what the words of each say.
+use Rattle.mat_tree.specs.Trees.{is_placed}
 use Rattle.std.specs.Prelude.{ℕ, Bool, true, false, if◌then◌else◌, List, [], ◌∷◌, ◌++◌, Option, Some, None}
 use Rattle.std.specs.List.{list_all}
 use Rattle.mat_digest.specs.declared.digest.Digest.{Digest}
@@ -84,13 +85,9 @@ with_three f None b c = None
 abbrev pub a_sum : Kind → Digest → Sum
 a_sum kind digest = record { kind = kind; digest = digest }
 
--- whether a node of a tree at a path stands at a path
-abbrev pub has_place : List (List ℕ) → Flat → Bool
-has_place path node = is_path (path ++ node.rel)
-
 -- a tree, if at this path each of its nodes stands at a path
 abbrev pub placed : Option (List (List ℕ)) → Option (List Flat) → Option (List Flat)
-placed (Some path) (Some tree) = if list_all (has_place path) tree then Some tree else None
+placed (Some path) (Some tree) = if list_all (is_placed path) tree then Some tree else None
 placed (Some path) None = None
 placed None tree = None
 

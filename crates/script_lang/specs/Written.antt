@@ -8,8 +8,7 @@ use Rattle.mat_model.specs.declared.requests.CleanMode.{CleanMode}
 use Rattle.mat_model.specs.declared.requests.CleanMode.TheVariants as mode
 use Rattle.mat_model.specs.declared.requests.Request.{Request}
 use Rattle.mat_model.specs.declared.requests.Request.TheVariants as request
-use Rattle.mat_tree.specs.Trees.{IsTree}
-use Rattle.tree_words.specs.Answers.{IsNode}
+use Rattle.mat_tree.specs.Trees.{IsNode, IsTree}
 use Rattle.tree_words.specs.Words.{node_words, text_of}
 use Rattle.script_lang.specs.declared.items.Item.{Item}
 use Rattle.script_lang.specs.declared.items.Item.TheVariants as item

@@ -2,9 +2,8 @@
 ghost use Rattle.std.specs.Prelude.{◌≡◌, ◌^◌, ◌<◌, true, All, OnOk};
 ghost use Rattle.hex.specs.Hex.{IsBytes};
 ghost use Rattle.mat_path.specs.Names.{is_path};
-ghost use Rattle.mat_tree.specs.Trees.{IsTree};
+ghost use Rattle.mat_tree.specs.Trees.{IsNode, IsTree};
 ghost use Rattle.mat_model.specs.declared.requests.Request.TheVariants as the_request;
-ghost use Rattle.tree_words.specs.Answers.{IsNode};
 ghost use Rattle.script_lang.specs.declared.items.Item.TheVariants as the_item;
 ghost use Rattle.script_lang.specs.Written.{IsAddressed, IsItem, IsRequest};
 

@@ -1,10 +1,10 @@
 // The requests of commands, by the words behind the first of a line.
-ghost use Rattle.std.specs.Prelude.{◌≡◌, ◌++◌, ◌≤◌, true, IfOk, sum_by};
+ghost use Rattle.mat_tree.specs.Trees.{is_placed};
+ghost use Rattle.std.specs.Prelude.{◌≡◌, IfOk};
 ghost use Rattle.std.specs.List.{list_all};
-ghost use Rattle.mat_path.specs.Names.{is_path, is_rel, slot};
 ghost use Rattle.mat_model.specs.declared.requests.Request.TheVariants as request;
 ghost use Rattle.script_lang.specs.declared.verbs.Asking.TheVariants as asking;
-ghost use Rattle.script_lang.specs.Items.{a_sum, clean_of, copy_of, declare_of, enter_of, ensure_of, four_of, has_of, has_place, invalidate_of, leave_of, match_of, one_of, placed, request_of, three_of, two_and_more_of, two_of, with_one, with_three, with_two, write_of};
+ghost use Rattle.script_lang.specs.Items.{a_sum, clean_of, copy_of, declare_of, enter_of, ensure_of, four_of, has_of, invalidate_of, leave_of, match_of, one_of, placed, request_of, three_of, two_and_more_of, two_of, with_one, with_three, with_two, write_of};
 
 use crate::spelled::{
     bytes_spelled, command_spelled, count_spelled, digest_spelled, kind_spelled, mode_spelled,
@@ -14,15 +14,9 @@ use crate::verbs::Asking;
 use crate::words::Words;
 use mat_digest::Digest;
 use mat_model::{CleanMode, Request};
-use mat_path::{Items, Memory, Name, Path};
+use mat_path::{Items, Memory, Path};
 use mat_tree::{Flat, Kind, Sum, Tree};
 use std::alloc::Global;
-
-/// The most names of a path.
-const NAMES: usize = 64;
-
-/// The most bytes of a path's text.
-const TEXT_BYTES: usize = 1024;
 
 // The request that the words behind the first say.
 pub(crate) fn read_request(
@@ -143,7 +137,7 @@ fn a_declare(
     let Some(tree) = tree else {
         return Ok(None);
     };
-    if !is_placed(&path, &tree)? {
+    if !places_all(&path, &tree)? {
         return Ok(None);
     }
     Ok(Some(Request::Declare {
@@ -153,47 +147,26 @@ fn a_declare(
     }))
 }
 
-// Whether each node of a tree at a path stands at a path.
-fn is_placed(path: &Path, tree: &Tree) -> Result<bool, Memory>
-    ensures ok { IfOk result (λ all. all ≡ list_all (has_place path.now) tree.now) }
+// Whether each node of a tree at a path is at a path itself.
+fn places_all(path: &Path, tree: &Tree) -> Result<bool, Memory>
+    ensures ok { IfOk result (λ all. all ≡ list_all (is_placed path.now) tree.now) }
 {
     let nodes = tree.flat()?;
     Ok(are_placed(path, nodes.as_slice()))
 }
 
-// Whether each of these nodes stands at a path, below a path.
+// Whether each of these nodes is at a path, below a path.
 fn are_placed(path: &Path, nodes: &[Flat]) -> bool
-    ensures { result ≡ list_all (has_place path.now) nodes.now }
+    ensures { result ≡ list_all (is_placed path.now) nodes.now }
 {
-    nodes.iter().all(|node| has_place(path, node))
+    nodes.iter().all(|node| is_placed(path, node))
 }
 
-// Whether a node of a tree at a path stands at a path.
-fn has_place(path: &Path, node: &Flat) -> bool
-    ensures { result ≡ has_place path.now node.now }
+// Whether a node of a tree at a path is at a path itself.
+fn is_placed(path: &Path, node: &Flat) -> bool
+    ensures { result ≡ is_placed path.now node.now }
 {
-    joins(path.names(), node.rel.names())
-}
-
-// Whether the names of a path and those of a rel behind them are a path.
-fn joins(front: &[Name], back: &[Name]) -> bool
-    requires front { is_path front.now ≡ true }
-    requires back { is_rel back.now ≡ true }
-    ensures { result ≡ is_path (front.now ++ back.now) }
-{
-    front.len() + back.len() <= NAMES && slots(front) + slots(back) <= TEXT_BYTES + 1
-}
-
-// The bytes of the names in a text, with a slash behind each.
-fn slots(names: &[Name]) -> usize
-    requires { sum_by slot names.now ≤ 1025 }
-    ensures { result ≡ sum_by slot names.now }
-{
-    let mut size = 0;
-    for name in names {
-        size += name.bytes().len() + 1;
-    }
-    size
+    path.can_join(&node.rel)
 }
 
 // The request of the words behind `copy`.

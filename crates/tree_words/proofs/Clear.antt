@@ -18,8 +18,7 @@ use Rattle.mat_path.specs.Names.{is_name, is_name_byte, is_rel, is_target, is_te
 use Rattle.mat_tree.specs.declared.flat.Flat.{Flat}
 use Rattle.mat_tree.specs.declared.flat.What.{What}
 use Rattle.mat_tree.specs.declared.flat.What.TheVariants as what
-use Rattle.mat_tree.specs.Trees.{has_rel}
-use Rattle.tree_words.specs.Answers.{IsNode, IsWhat}
+use Rattle.mat_tree.specs.Trees.{IsNode, IsWhat, has_rel}
 use Rattle.tree_words.specs.Rests.{is_space, words_of}
 use Rattle.tree_words.specs.Words.{file_word, node_words, text_of, what_words}
 

@@ -12,11 +12,11 @@ use Rattle.mat_path.proofs.ReadLemmas.{rel_read_back}
 use Rattle.mat_tree.specs.declared.flat.Flat.{Flat}
 use Rattle.mat_tree.specs.declared.flat.What.{What}
 use Rattle.mat_tree.specs.declared.flat.What.TheVariants as what
-use Rattle.mat_tree.specs.Trees.{IsTree, has_rel, is_small, what_size}
+use Rattle.mat_tree.specs.Trees.{IsNode, IsTree, IsWhat, has_rel, is_small, what_size}
 use Rattle.mat_tree.proofs.Refusals.{is_tree_no_refusal}
 use Rattle.tree_words.specs.declared.refusal.WordsRefusal.{WordsRefusal}
 use Rattle.tree_words.specs.declared.refusal.WordsRefusal.TheVariants as refusal
-use Rattle.tree_words.specs.Answers.{IsNode, IsRefusalOf, IsWhat}
+use Rattle.tree_words.specs.Answers.{IsRefusalOf}
 use Rattle.tree_words.specs.Rests.{words_of}
 use Rattle.tree_words.specs.Words.{at_digest, at_kind, at_rel, at_target, digest_spelled, fitting, node_before, node_words, read_from, read_tree, small_digest, target_spelled, text_of, tree_of, tree_text, unless_refused, what_words}
 use Rattle.tree_words.proofs.Clear.{IsClear, clear_nodes, words_back}

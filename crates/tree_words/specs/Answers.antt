@@ -21,13 +21,3 @@ abbrev pub IsRefusalOf : Result (List Flat) WordsRefusal → WordsRefusal → Ty
 IsRefusalOf tree (refusal.Word k) = tree ≡ Err (refusal.Word k)
 IsRefusalOf tree (refusal.Tree why) = tree ≡ Err (refusal.Tree why)
 IsRefusalOf tree refusal.NoMemory = Unit {0}
-
--- what a node is can be held: a digest of 32 bytes and a size of 64 bits, a target of the bytes that one may have
-abbrev pub IsWhat : What → Type 0
-IsWhat (what.File digest exec) = IsDigest digest
-IsWhat what.Dir = Unit {0}
-IsWhat (what.Link target) = is_target target ≡ true
-
--- the same of a node
-abbrev pub IsNode : Flat → Type 0
-IsNode node = IsWhat node.what

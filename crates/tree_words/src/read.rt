@@ -2,9 +2,9 @@
 ghost use Rattle.std.specs.Prelude.{◌≡◌, ◌++◌, ◌∷◌, ◌<◌, [], true, All, length, List, Ok, IfErr, IfOk, MatchResult, OnOk};
 ghost use Rattle.std.specs.List.{list_all};
 ghost use Rattle.mat_path.specs.Names.{rel_of};
-ghost use Rattle.mat_tree.specs.Trees.{is_small, IsTree};
+ghost use Rattle.mat_tree.specs.Trees.{IsNode, IsTree, is_small};
 ghost use Rattle.mat_tree.specs.declared.flat.Flat.{Flat as TheFlat};
-ghost use Rattle.tree_words.specs.Answers.{Agrees, IsNode, IsRefusalOf};
+ghost use Rattle.tree_words.specs.Answers.{Agrees, IsRefusalOf};
 ghost use Rattle.tree_words.specs.Rests.{words_of};
 ghost use Rattle.tree_words.specs.Words.{at_digest, at_kind, at_rel, at_target, digest_spelled, node_before, read_from, read_tree, target_spelled, tree_text};
 ghost use Rattle.tree_words.specs.declared.refusal.WordsRefusal.TheVariants as refusal;
@@ -14,11 +14,8 @@ use crate::refusal::WordsRefusal;
 use crate::words::Words;
 use mat_digest::Digest;
 use mat_path::{Memory, PathRefusal, Rel, Target};
-use mat_tree::{Flat, Tree, TreeRefusal, What};
+use mat_tree::{Flat, GREATEST_FILE, Tree, TreeRefusal, What};
 use std::alloc::Global;
-
-// The most bytes that a file of a tree has: 64 MiB.
-const MOST_BYTES: u64 = 67_108_864;
 
 /// Reads a tree from its words: `f DIGEST REL` for a file of at most 67,108,864 bytes, `x DIGEST REL`
 /// for an executable one, `l TARGET REL` for a link, `d REL` for a directory. The nodes stand in the
@@ -152,7 +149,7 @@ fn digest_spelled(word: &[u8]) -> Option<Digest>
 {
     match Digest::read_text(word) {
         Ok(digest) => {
-            if digest.size <= MOST_BYTES {
+            if digest.size <= GREATEST_FILE {
                 Some(digest)
             } else {
                 None

@@ -1,7 +1,7 @@
 // Writing a tree as words.
+ghost use Rattle.mat_tree.specs.Trees.{IsNode};
 ghost use Rattle.std.specs.Prelude.{◌≡◌, ◌++◌, ◌∷◌, All, IfOk, Ok, OnOk};
 ghost use Rattle.mat_digest.specs.Digests.{digest_text};
-ghost use Rattle.tree_words.specs.Answers.{IsNode};
 ghost use Rattle.tree_words.specs.Words.{file_word, node_text, read_tree, text_of, tree_text, what_words};
 
 use mat_digest::Digest;

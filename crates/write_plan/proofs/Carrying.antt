@@ -1,4 +1,7 @@
--- A plan that is carried out makes a part hold its tree.
+-- A plan that is carried out makes a part have its tree.
+use Rattle.mat_path.proofs.SameNames.{same_names-eq}
+use Rattle.mat_path.proofs.PathLemmas.{path_cmp-refl}
+use Rattle.std.specs.Cmp.{first_so, second_so}
 use Rattle.std.proofs.Common.{◌≡◌, ℕ, Bool, true, false, List, [], ◌∷◌, ◌++◌, map, Option, Some, None, cond, refl, ap, ◌∙◌, subst}
 use Rattle.std.specs.List.{find, list_all}
 use Rattle.std.specs.Option.{option_map}
@@ -9,10 +12,8 @@ use Rattle.mat_path.specs.Names.{same_names, path_cmp}
 use Rattle.mat_tree.specs.declared.flat.Flat.{Flat}
 use Rattle.mat_tree.specs.declared.flat.What.{What}
 use Rattle.mat_tree.specs.declared.flat.What.TheVariants as what
-use Rattle.mat_tree.specs.Parts.{Holds, Part, bare, declared_by, file, folder, link}
+use Rattle.mat_tree.specs.Parts.{HasTree, Part, bare, declared_by, file, folder, link}
 use Rattle.mat_tree.specs.Trees.{ascends, is_after, is_at, what_of}
-use Rattle.mat_tree.proofs.Joins.{and_left, and_right}
-use Rattle.mat_tree.proofs.Paths.{path_is_itself, same_names_true}
 use Rattle.write_plan.specs.declared.act.Act.{Act}
 use Rattle.write_plan.specs.declared.act.Act.TheVariants as act
 use Rattle.write_plan.specs.declared.method.Method.{Method}
@@ -44,16 +45,16 @@ put_at way lent bytes at (what.Link target) part rel right =
 none_after : (rel : List (List ℕ)) (nodes : List Flat) → list_all (is_after rel) nodes ≡ true → find (is_at rel) nodes ≡ None
 none_after rel [] all = refl
 none_after rel (node ∷ nodes) all =
-    let off : same_names node.rel rel ≡ false = apart node.rel rel (and_left (is_after rel node) (list_all (is_after rel) nodes) all) in
+    let off : same_names node.rel rel ≡ false = apart node.rel rel (first_so (is_after rel node) (list_all (is_after rel) nodes) all) in
     ap (λ (b : Bool). cond b (Some node) (find (is_at rel) nodes)) off
-    ∙ none_after rel nodes (and_right (is_after rel node) (list_all (is_after rel) nodes) all)
+    ∙ none_after rel nodes (second_so (is_after rel node) (list_all (is_after rel) nodes) all)
   where
     lt_apart : (b : Bool) (p q : List (List ℕ)) → same_names p q ≡ b → is_lt (path_cmp q p) ≡ true → b ≡ false
     lt_apart false p q is lt = refl
     lt_apart true p q is lt =
-        let same : p ≡ q = same_names_true p q is in
+        let same : p ≡ q = same_names-eq p q is in
         let equal : is_lt (path_cmp q q) ≡ true = subst (λ (r : List (List ℕ)). is_lt (path_cmp q r) ≡ true) same lt in
-        let none : is_lt (path_cmp q q) ≡ false = ap is_lt (path_is_itself q) in cc
+        let none : is_lt (path_cmp q q) ≡ false = ap is_lt (path_cmp-refl q) in cc
 
     apart : (p q : List (List ℕ)) → is_lt (path_cmp q p) ≡ true → same_names p q ≡ false
     apart p q lt = lt_apart (same_names p q) p q refl lt
@@ -71,7 +72,7 @@ put_all : (way : Method) (lent : Bool) (bytes : Bytes) (nodes : List Flat) (part
     option_map declared_by (carry bytes (map (act_of way lent) nodes) part rel) ≡ or_else (find (is_at rel) nodes) (option_map declared_by (part rel))
 put_all way lent bytes [] part rel up right = refl
 put_all way lent bytes (node ∷ nodes) part rel up right =
-    put_all way lent bytes nodes (carry_one bytes (act_of way lent node) part) rel (and_right (list_all (is_after node.rel) nodes) (ascends nodes) up) right.1
+    put_all way lent bytes nodes (carry_one bytes (act_of way lent node) part) rel (second_so (list_all (is_after node.rel) nodes) (ascends nodes) up) right.1
     ∙ ap (or_else (find (is_at rel) nodes)) (put_at way lent bytes node.rel node.what part rel right.0)
     ∙ by (same_names node.rel rel) refl
   where
@@ -79,19 +80,19 @@ put_all way lent bytes (node ∷ nodes) part rel up right =
         or_else (find (is_at rel) nodes) (cond (same_names rel node.rel) (Some node.what) (option_map declared_by (part rel)))
         ≡ or_else (cond b (Some node) (find (is_at rel) nodes)) (option_map declared_by (part rel))
     by true here =
-        let same : node.rel ≡ rel = same_names_true node.rel rel here in
+        let same : node.rel ≡ rel = same_names-eq node.rel rel here in
         let none : find (is_at rel) nodes ≡ None =
         subst (λ (r : List (List ℕ)). find (is_at r) nodes ≡ None) same
-        (none_after node.rel nodes (and_left (list_all (is_after node.rel) nodes) (ascends nodes) up)) in
+        (none_after node.rel nodes (first_so (list_all (is_after node.rel) nodes) (ascends nodes) up)) in
         let there : same_names rel node.rel ≡ true = symm node.rel rel ∙ here in
         ap (λ (o : Option Flat). or_else o (cond (same_names rel node.rel) (Some node.what) (option_map declared_by (part rel)))) none
         ∙ ap (λ (b : Bool). cond b (Some node.what) (option_map declared_by (part rel))) there
     by false off =
         ap (λ (b : Bool). or_else (find (is_at rel) nodes) (cond b (Some node.what) (option_map declared_by (part rel)))) (symm node.rel rel ∙ off)
 
--- a plan that is carried out with the right bytes makes any part hold its tree
+-- a plan that is carried out with the right bytes makes any part have its tree
 pub plan_holds : (nodes : List Flat) (way : Method) (lent : Bool) (bytes : Bytes) (part : Part) → ascends nodes ≡ true → AreRight bytes nodes →
-    Holds (carry bytes (plan_of nodes way lent) part) nodes
+    HasTree (carry bytes (plan_of nodes way lent) part) nodes
 plan_holds nodes way lent bytes part up right = λ rel.
     ap (λ (p : Part). option_map declared_by (p rel)) (carry-append bytes (map (act_of way lent) nodes) (act.Sync ∷ []) bare)
     ∙ put_all way lent bytes nodes bare rel up right

@@ -2,7 +2,7 @@
 ghost use Rattle.std.specs.Prelude.{◌≡◌, ◌∷◌, ◌++◌, [], true, map, IfOk, OnOk};
 ghost use Rattle.std.specs.List.{list_all};
 ghost use Rattle.mat_path.specs.Names.{is_rel};
-ghost use Rattle.mat_tree.specs.Parts.{Holds, Part};
+ghost use Rattle.mat_tree.specs.Parts.{HasTree, Part};
 ghost use Rattle.mat_tree.specs.Trees.{IsTree};
 ghost use Rattle.write_plan.specs.Carried.{AreRight, Bytes, carry};
 ghost use Rattle.write_plan.specs.Plans.{act_of, is_empty, lends_at, lends_node, may_lend, method_supply, origin_supply, plan_of, supply_of};
@@ -14,15 +14,15 @@ use mat_path::{JoinRefusal, Memory, Rel};
 use mat_tree::{Flat, Tree, What};
 use std::alloc::Global;
 
-/// The acts that make a part of a disk hold a tree: a wipe, one act for each node, parents first, and a sync. Bytes of a
+/// The acts that make a part of a disk have a tree: a wipe, one act for each node, parents first, and a sync. Bytes of a
 /// file come from the row, from the store or, where `lent` says that it is lent, from the part that the row was copied
 /// from; an empty file needs none.
 ///
-/// Carried out with bytes of the declared digests, they make a part hold the tree, whatever it had before.
+/// Carried out with bytes of the declared digests, they make a part have the tree, whatever it had before.
 pub fn plan(alloc: Global, tree: &Tree, method: &Method, lent: bool) -> Result<Vec<Act>, Memory>
     requires { may_lend method.now lent tree.now ≡ true }
     ensures ok { IfOk result (λ acts. acts.items ≡ plan_of tree.now method.now lent) }
-    ensures holds { IfOk result (λ acts. (bytes : Bytes) (part : Part) → AreRight bytes tree.now → Holds (carry bytes acts.items part) tree.now) }
+    ensures holds { IfOk result (λ acts. (bytes : Bytes) (part : Part) → AreRight bytes tree.now → HasTree (carry bytes acts.items part) tree.now) }
 {
     acts_of(alloc, tree, method, lent)
 }

@@ -1,9 +1,9 @@
+use Rattle.std.specs.Cmp.{first_so}
 use Rattle.std.proofs.Common.{◌∙◌, ◌+◌, ℕ, List, ◌∷◌, drop, ap, refl}
 use Rattle.std.proofs.lemmas.List.{drop_all}
 use Rattle.std.specs.List.{list_all}
 use Rattle.mat_model.specs.declared.entries.Outcome.TheVariants as outcome
 use Rattle.fetch_port.specs.Memory.{blobs_of}
-use Rattle.mat_tree.proofs.Joins.{and_left}
 use Rattle.buckd.specs.Making.{fits, is_supplied}
 use Rattle.buckd.proofs.CarryLemmas.{Ends, Leads, Passes, at, ends-failed, ends-made, leads-start, leads-step, next_is, passes-along}
 use Rattle.buckd.proofs.making.carry_out.Goals as goal
@@ -29,11 +29,11 @@ next c =
 pub put_act-requires-clause-fits : goal.put_act-requires-clause-fits
 put_act-requires-clause-fits c =
     ap (λ (place : List (List ℕ)). fits place c.act-item.result) c.loop-act.invariant.place
-    ∙ and_left (fits c.args.region.now.place c.act-item.result) (list_all (fits c.args.region.now.place) (drop (c.loop-act.act-index + 1) c.args.acts.now)) (next c).fit
+    ∙ first_so (fits c.args.region.now.place c.act-item.result) (list_all (fits c.args.region.now.place) (drop (c.loop-act.act-index + 1) c.args.acts.now)) (next c).fit
 
 pub put_act-requires-clause-supplied : goal.put_act-requires-clause-supplied
 put_act-requires-clause-supplied c =
-    and_left (is_supplied c.args.method.now c.act-item.result) (list_all (is_supplied c.args.method.now) (drop (c.loop-act.act-index + 1) c.args.acts.now)) (next c).have
+    first_so (is_supplied c.args.method.now c.act-item.result) (list_all (is_supplied c.args.method.now) (drop (c.loop-act.act-index + 1) c.args.acts.now)) (next c).have
 
 -- what the act did
 passes_failed : (c : goal.In-Some) →

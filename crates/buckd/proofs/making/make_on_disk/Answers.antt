@@ -1,7 +1,7 @@
 use Rattle.std.proofs.Common.{◌≡◌, ◌∙◌, ◌∷◌, ℕ, false, true, List, map, ap, sym, subst}
 use Rattle.std.specs.List.{list_all}
 use Rattle.mat_path.specs.Names.{is_prefix}
-use Rattle.mat_tree.specs.Parts.{Holds, below, replaced, without}
+use Rattle.mat_tree.specs.Parts.{HasTree, below, replaced, without}
 use Rattle.mat_tree.proofs.Joins.{on_ok}
 use Rattle.mat_model.specs.declared.entries.Outcome.{Outcome}
 use Rattle.mat_model.specs.declared.entries.Outcome.TheVariants as outcome
@@ -55,7 +55,7 @@ returns-clause-holds c =
     (part_of c.carry_out-outcome.new.region ≡ carry (supplied (blobs_of c.args.store.now) c.args.method.now)
     (acts_done (blobs_of c.args.store.now) c.as_slice.result.now) (part_of c.in_ok-region.region))
     (λ (ended : Outcome). ended ≡ outcome_of (blobs_of c.args.store.now) c.as_slice.result.now)
-    (λ (ended : Outcome). ended ≡ outcome.Made → Holds (below c.args.path.now (disk_content c.give.new.self)) c.args.tree.now)
+    (λ (ended : Outcome). ended ≡ outcome.Made → HasTree (below c.args.path.now (disk_content c.give.new.self)) c.args.tree.now)
     (λ ended carried ends made.
     holds_given c.args.path.now (part_of c.carry_out-outcome.new.region) (disk_content c.args.disk.now) (disk_content c.give.new.self) c.args.tree.now (given c)
     (holds_made (blobs_of c.args.store.now) c.args.method.now c.args.tree.now c.as_slice.result.now c.in_ok-acts.acts.items (part_of c.in_ok-region.region)

@@ -1,5 +1,5 @@
 use Rattle.std.proofs.Common.{◌≡◌, drop}
-use Rattle.mat_model.specs.Yard.{first_make}
+use Rattle.mat_model.specs.WorkState.{first_make}
 use Rattle.buckd.specs.Run.{idle}
 use Rattle.buckd.proofs.tickets.first_row.Given as goal
 

@@ -1,10 +1,11 @@
+use Rattle.std.specs.Cmp.{second_so}
 use Rattle.std.proofs.Common.{◌++◌, length, ap, sym, ◌∙◌, arith}
 use Rattle.std.specs.List.{list_all}
 use Rattle.mat_tree.specs.Nodes.{placed, below_all}
 use Rattle.mat_tree.specs.Trees.{has_rel}
 use Rattle.mat_tree.proofs.Folds.{below_dir_out, child_length, child_within}
 use Rattle.mat_tree.proofs.Placed.{placed_pushed, rels_at, listed_all, listed_dir}
-use Rattle.mat_tree.proofs.Joins.{and_right, on_ok}
+use Rattle.mat_tree.proofs.Joins.{on_ok}
 use Rattle.mat_tree.proofs.listing.+listing.Goals as goal
 
 pub list_child-list_node-requires : goal.list_child-list_node-requires
@@ -31,7 +32,7 @@ list_children-list_child-requires t c =
 pub list_node-list_children-requires : goal.list_node-list_children-requires
 list_node-list_children-requires t c =
     let e = ap length (below_dir_out c.args.node.now c.in-Dir.children c.list.result.now c.in-Dir.is c.list.ensures) in
-    (omega arith, and_right _ _ (ap (list_all has_rel) (sym (listed_dir c.args.names.now.items c.args.node.now c.in-Dir.children c.list.result.now c.in-Dir.is c.list.ensures)) ∙ c.requires))
+    (omega arith, second_so _ _ (ap (list_all has_rel) (sym (listed_dir c.args.names.now.items c.args.node.now c.in-Dir.children c.list.result.now c.in-Dir.is c.list.ensures)) ∙ c.requires))
 
 pub list_node-returns-in-Dir-clause-nodes : goal.list_node-returns-in-Dir-clause-nodes
 list_node-returns-in-Dir-clause-nodes t c =

@@ -1,3 +1,4 @@
+use Rattle.mat_path.proofs.SameNames.{same_names-behind}
 use Rattle.std.proofs.Common.{◌++◌, ap, sym, ◌∙◌, cond}
 use Rattle.std.specs.Prelude.{Some, nat_le, length}
 use Rattle.std.specs.Cmp.{second_so}
@@ -5,7 +6,6 @@ use Rattle.std.specs.BTreeMap.{get}
 use Rattle.mat_path.specs.Names.{is_rel, path_cmp, same_names}
 use Rattle.mat_tree.specs.Parts.{declared_by}
 use Rattle.region_port.specs.Entries.{node_of}
-use Rattle.region_port.proofs.Names.{same_names-behind}
 use Rattle.region_port.proofs.Shown.{below-none, below-some, is_rel-behind, IfOk-then}
 use Rattle.region_port.proofs.listing.add_entry.Goals as goal
 

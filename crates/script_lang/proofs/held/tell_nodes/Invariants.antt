@@ -1,6 +1,6 @@
+use Rattle.mat_tree.specs.Trees.{IsNode}
 use Rattle.std.proofs.Common.{take}
 use Rattle.std.specs.Prelude.{All}
-use Rattle.tree_words.specs.Answers.{IsNode}
 use Rattle.script_lang.proofs.held.tell_nodes.Given as goal
 
 abbrev pub invariant-loop-node : goal.invariant-loop-node

@@ -2,7 +2,7 @@ use Rattle.std.proofs.Common.{◌≡◌, List, Result, Ok, Err, IfOk, true, sym,
 use Rattle.std.specs.declared.vec.Vec.{Vec}
 use Rattle.std.specs.declared.alloc.Global.{Global}
 use Rattle.mat_tree.specs.declared.flat.Flat.{Flat}
-use Rattle.mat_tree.specs.Parts.{Holds, Part}
+use Rattle.mat_tree.specs.Parts.{HasTree, Part}
 use Rattle.mat_tree.specs.Trees.{ascends}
 use Rattle.write_plan.specs.declared.act.Act.{Act}
 use Rattle.write_plan.specs.declared.method.Method.{Method}
@@ -11,11 +11,11 @@ use Rattle.write_plan.specs.Plans.{plan_of}
 use Rattle.write_plan.proofs.Carrying.{plan_holds}
 use Rattle.write_plan.proofs.acts.plan.Goals as goal
 
--- acts that are a plan hold its tree once they are carried out
+-- acts that are a plan have its tree once they are carried out
 holds_where : {E : Type 0} (r : Result (Vec Act Global) E) (nodes : List Flat) (way : Method) (lent : _) → IfOk r (λ acts. acts.items ≡ plan_of nodes way lent) →
-    ascends nodes ≡ true → IfOk r (λ acts. (bytes : Bytes) (part : Part) → AreRight bytes nodes → Holds (carry bytes acts.items part) nodes)
+    ascends nodes ≡ true → IfOk r (λ acts. (bytes : Bytes) (part : Part) → AreRight bytes nodes → HasTree (carry bytes acts.items part) nodes)
 holds_where (Ok acts) nodes way lent is up = λ bytes part right.
-    subst (λ (list : List Act). Holds (carry bytes list part) nodes) (sym is) (plan_holds nodes way lent bytes part up right)
+    subst (λ (list : List Act). HasTree (carry bytes list part) nodes) (sym is) (plan_holds nodes way lent bytes part up right)
 holds_where (Err e) nodes way lent is up = tt
 
 pub returns-clause-holds : goal.returns-clause-holds

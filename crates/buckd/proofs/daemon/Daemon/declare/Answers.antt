@@ -1,9 +1,9 @@
+use Rattle.mat_path.proofs.Bools.{and_false_right}
 use Rattle.std.proofs.Common.{rules, sym, subst, IfOk, length, ◌≡◌, true, false}
 use Rattle.std.specs.List.{list_any}
 use Rattle.mat_model.specs.declared.answers.Reply.{Reply}
 use Rattle.mat_model.specs.Gate.{Served, is_live}
 use Rattle.mat_model.specs.Rows.{overlaps_row}
-use Rattle.mat_model.proofs.ListTests.{and_false_right}
 use Rattle.buckd.specs.Daemon.{Serves, book_of}
 use Rattle.buckd.proofs.Kept.{declare-alone, kept-entered}
 use Rattle.buckd.proofs.daemon.Daemon.declare.Goals as goal

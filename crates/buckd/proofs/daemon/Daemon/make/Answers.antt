@@ -5,7 +5,7 @@ use Rattle.mat_model.specs.declared.entries.Entry.{Entry}
 use Rattle.mat_model.specs.declared.entries.Event.TheVariants as event
 use Rattle.mat_model.specs.declared.entries.Task.TheVariants as task
 use Rattle.mat_model.specs.declared.answers.Reply.TheVariants as reply
-use Rattle.mat_model.proofs.Makes.{first_make_found}
+use Rattle.model_laws.proofs.Makes.{first_make_found}
 use Rattle.buckd.specs.declared.daemon.Daemon.{Daemon}
 use Rattle.buckd.specs.Run.{entry_at, idle}
 use Rattle.buckd.specs.Sound.{KeepsBook}

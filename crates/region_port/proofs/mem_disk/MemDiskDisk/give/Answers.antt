@@ -1,13 +1,15 @@
+use Rattle.mat_path.proofs.CoveringLemmas.{one_fewer}
+use Rattle.mat_path.specs.Covering.{is_other_path}
 use Rattle.std.proofs.Common.{◌≡◌, ap, ◌∙◌, arith, rules, length}
 use Rattle.std.specs.Prelude.{Some}
 use Rattle.std.specs.List.{filter}
 use Rattle.std.proofs.lemmas.Fn.{filter_same}
 use Rattle.mat_tree.specs.Parts.{below, replaced}
-use Rattle.region_port.specs.Calls.{is_other_path, paths_of_both}
+use Rattle.region_port.specs.Calls.{paths_of_both}
 use Rattle.region_port.specs.Entries.{content_of, paths_of}
 use Rattle.region_port.specs.Lists.{all_of}
 use Rattle.region_port.proofs.Content.{content_of-replaced}
-use Rattle.region_port.proofs.Loans.{apart-given, free-given, free-lent, one_fewer}
+use Rattle.region_port.proofs.Loans.{apart-given, free-given, free-lent}
 use Rattle.region_port.proofs.Marks.{paths_of-append}
 use Rattle.region_port.proofs.mem_disk.MemDiskDisk.give.Goals as goal
 

@@ -1,3 +1,4 @@
+use Rattle.mat_path.proofs.CoveringLemmas.{among-push}
 use Rattle.std.proofs.Common.{◌≡◌, ◌++◌, ◌∷◌, [], ap, ◌∙◌, arith}
 use Rattle.std.specs.Prelude.{Some}
 use Rattle.std.specs.List.{list_all, list_any, filter}
@@ -7,7 +8,7 @@ use Rattle.region_port.specs.Entries.{is_within, is_outside, path_of_entry, cont
 use Rattle.region_port.specs.Lists.{all_of}
 use Rattle.region_port.proofs.Content.{below-within, content_of-outside}
 use Rattle.region_port.proofs.Latest.{all_filter}
-use Rattle.region_port.proofs.Loans.{apart-taken, free-taken, lent-push}
+use Rattle.region_port.proofs.Loans.{apart-taken, free-taken}
 use Rattle.region_port.proofs.Marks.{paths_of-within, paths_of-outside}
 use Rattle.region_port.proofs.mem_disk.MemDiskDisk.take.Goals as goal
 
@@ -72,4 +73,4 @@ returns-clause-out c =
     let before = c.args.self.now.loans.items in
     ap (λ p. list_any (same_names p) c.push_reserved.new.self.items) c.in_ok-place.ensures.ok
     ∙ ap (list_any (same_names path)) (c.push_reserved.ensures.items ∙ ap (λ l. l ++ c.in_ok-loan.loan ∷ []) c.reserve.ensures.items ∙ ap (λ p. before ++ p ∷ []) c.in_ok-loan.ensures.ok)
-    ∙ lent-push before path
+    ∙ among-push before path

@@ -1,3 +1,4 @@
+use Rattle.mat_path.proofs.PathLemmas.{prefix-append}
 use Rattle.std.proofs.Common.{◌≡◌, ◌++◌, ◌∷◌, [], ap, ◌∙◌, List}
 use Rattle.std.specs.Prelude.{Some}
 use Rattle.std.specs.List.{list_all}
@@ -7,7 +8,6 @@ use Rattle.region_port.specs.Entries.{is_within, path_of_entry, content_of}
 use Rattle.region_port.specs.declared.entry.Entry.{Entry}
 use Rattle.region_port.proofs.Content.{with_node-push}
 use Rattle.region_port.proofs.Latest.{all_push}
-use Rattle.region_port.proofs.Names.{is_prefix_of_joined}
 use Rattle.region_port.proofs.mem_region.MemRegion.put.Goals as goal
 
 pub invariant_of-self-2 : goal.invariant_of-self-2
@@ -18,7 +18,7 @@ invariant_of-self-2 c =
     let items : c.push_reserved.new.self.items ≡ entries ++ entry ∷ [] = c.push_reserved.ensures.items ∙ ap (λ l. l ++ entry ∷ []) c.reserve.ensures.items in
     record {
       nodes_within = ap (list_all (is_within path_of_entry place)) items
-          ∙ all_push (is_within path_of_entry place) entries entry c.args.self.now.nodes_within (ap (is_prefix place) c.in-Ok.ensures.ok ∙ is_prefix_of_joined place c.args.rel.now);
+          ∙ all_push (is_within path_of_entry place) entries entry c.args.self.now.nodes_within (ap (is_prefix place) c.in-Ok.ensures.ok ∙ prefix-append place c.args.rel.now);
       rough_within = c.args.self.now.rough_within;
       room = c.args.self.now.room;
     }

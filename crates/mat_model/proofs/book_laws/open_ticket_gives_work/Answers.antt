@@ -1,5 +1,0 @@
-use Rattle.mat_model.proofs.BooksWork.{gives_work}
-use Rattle.mat_model.proofs.book_laws.open_ticket_gives_work.Goals as goal
-
-pub returns : goal.returns
-returns c = gives_work

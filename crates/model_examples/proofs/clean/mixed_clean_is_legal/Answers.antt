@@ -1,0 +1,22 @@
+use Rattle.std.proofs.Common.{None, refl}
+use Rattle.mat_model.specs.declared.entries.Task.TheVariants as task
+use Rattle.model_examples.specs.Steps.{path_p, path_q}
+use Rattle.model_examples.proofs.clean.mixed_clean_is_legal.Goals as goal
+
+pub returns : goal.returns
+returns c digest = (
+  record { reply = refl; moment = refl; number = refl; order = tt },
+  (
+    record { reply = refl; moment = refl; number = refl; order = refl },
+    (
+      record { reply = refl; moment = refl; number = refl; order = refl },
+      (
+        record { reply = refl; moment = refl; number = refl; order = record { job = record { number = 3; caller = 0; task = task.Wipe path_q; lent = None }; runs = refl; owned = refl; ends = refl } },
+        (
+          record { reply = refl; moment = refl; number = refl; order = record { job = record { number = 2; caller = 0; task = task.Wipe path_p; lent = None }; runs = refl; owned = refl; ends = refl } },
+          tt,
+        ),
+      ),
+    ),
+  ),
+)

@@ -1,0 +1,22 @@
+use Rattle.std.proofs.Common.{None, refl}
+use Rattle.mat_model.specs.declared.entries.Task.TheVariants as task
+use Rattle.model_examples.specs.Steps.{path_p}
+use Rattle.model_examples.proofs.clean.stray_is_legal.Goals as goal
+
+pub returns : goal.returns
+returns c = (
+  record { reply = refl; moment = refl; number = refl; order = tt },
+  (
+    record { reply = refl; moment = refl; number = refl; order = tt },
+    (
+      record { reply = refl; moment = refl; number = refl; order = tt },
+      (
+        record { reply = refl; moment = refl; number = refl; order = refl },
+        (
+          record { reply = refl; moment = refl; number = refl; order = record { job = record { number = 3; caller = 0; task = task.Wipe path_p; lent = None }; runs = refl; owned = refl; ends = refl } },
+          tt,
+        ),
+      ),
+    ),
+  ),
+)

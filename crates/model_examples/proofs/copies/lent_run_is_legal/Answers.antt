@@ -1,0 +1,49 @@
+use Rattle.std.proofs.Common.{None, Some, refl}
+use Rattle.mat_model.specs.declared.entries.Task.TheVariants as task
+use Rattle.model_examples.specs.Steps.{path_p, path_q}
+use Rattle.model_examples.proofs.copies.lent_run_is_legal.Goals as goal
+
+pub returns : goal.returns
+returns c digest = (
+  record { reply = refl; moment = refl; number = refl; order = tt },
+  (
+    record { reply = refl; moment = refl; number = refl; order = tt },
+    (
+      record { reply = refl; moment = refl; number = refl; order = tt },
+      (
+        record { reply = refl; moment = refl; number = refl; order = refl },
+        (
+          record { reply = refl; moment = refl; number = refl; order = record { job = record { number = 3; caller = 0; task = task.Make path_p 1; lent = None }; runs = refl; owned = refl; ends = refl } },
+          (
+            record { reply = refl; moment = refl; number = refl; order = tt },
+            (
+              record { reply = refl; moment = refl; number = refl; order = tt },
+              (
+                record { reply = refl; moment = refl; number = refl; order = tt },
+                (
+                  record { reply = refl; moment = refl; number = refl; order = tt },
+                  (
+                    record { reply = refl; moment = refl; number = refl; order = refl },
+                    (
+                      record { reply = refl; moment = refl; number = refl; order = tt },
+                      (
+                        record { reply = refl; moment = refl; number = refl; order = record { job = record { number = 9; caller = 0; task = task.Make path_q 7; lent = Some (record { path = path_p; stamp = 1 }) }; runs = refl; owned = refl; ends = refl } },
+                        (
+                          record { reply = refl; moment = refl; number = refl; order = refl },
+                          (
+                            record { reply = refl; moment = refl; number = refl; order = record { job = record { number = 12; caller = 0; task = task.Wipe path_p; lent = None }; runs = refl; owned = refl; ends = refl } },
+                            tt,
+                          ),
+                        ),
+                      ),
+                    ),
+                  ),
+                ),
+              ),
+            ),
+          ),
+        ),
+      ),
+    ),
+  ),
+)

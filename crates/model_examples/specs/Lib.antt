@@ -1,0 +1,9 @@
+pub mod Steps
+pub mod FirstRuns
+pub mod GateRuns
+pub mod CleanRuns
+pub mod DeclareRuns
+pub mod CopyRuns
+pub mod StoreRuns
+pub mod FailureRuns
+pub mod RoomRuns

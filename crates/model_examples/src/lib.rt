@@ -1,0 +1,12 @@
+//! Floor of the model: worked histories, each with what it leads to, as theorems on public functions without a body.
+//! Nothing stands on this crate.
+#![tactic(auto)]
+
+pub mod clean;
+pub mod copies;
+pub mod declare;
+pub mod failure;
+pub mod first;
+pub mod gate;
+pub mod room;
+pub mod store;

@@ -1,0 +1,5 @@
+use Rattle.model_laws.proofs.LawLemmas.{serve_true}
+use Rattle.model_laws.proofs.laws.serve_answers_truly.Goals as goal
+
+pub returns : goal.returns
+returns c = serve_true

@@ -1,0 +1,18 @@
+//! Floor of the model: what is proved of every history, each law a public function without a body whose clause is the law.
+#![tactic(auto)]
+
+mod book_laws;
+mod laws;
+
+pub use book_laws::{
+    asker_stays, finish_keeps_rules, front_waits_rightly, history_keeps_rules, idle_keeps_rules,
+    open_ticket_gives_work, open_ticket_waits, opening_keeps_rules, refuse_keeps_rules,
+    room_keeps_queue, serve_keeps_rules, somebody_is_live,
+};
+pub use laws::{
+    answer_stays, finish_answers_truly, finish_keeps_apart, finish_keeps_standing,
+    finish_keeps_tickets, first_make_answers, history_keeps_apart, history_keeps_gate,
+    history_keeps_standing, history_keeps_tickets, ready_is_true, serve_answers_truly,
+    serve_keeps_apart, serve_keeps_gate, serve_keeps_standing, serve_keeps_tickets,
+    write_is_declared,
+};
