@@ -293,11 +293,11 @@ kept_more : (read line partial more : List ℕ) → partial ≡ take kept (last_
 kept_more read line partial more is e =
     e ∙ ap (λ (bs : List ℕ). bs ++ take (kept - length bs) line) is ∙ keep_more kept (last_line read) line
 
-pub stands_hold : (read line : List ℕ) (before now : Option (List ℕ)) (old new : Session) → IsLine line
+pub stands_kept : (read line : List ℕ) (before now : Option (List ℕ)) (old new : Session) → IsLine line
     → scene_of new.daemon ≡ scene_of old.daemon → new.gathered.items ≡ old.gathered.items
     → new.partial.items ≡ old.partial.items ++ take (kept - length old.partial.items) line
     → Stands read before now old → Stands (read ++ line) before now new
-stands_hold read line before now old new is scene gathered partial stands = record {
+stands_kept read line before now old new is scene gathered partial stands = record {
   going = ap has_end (whole_more read line is) ∙ stands.going;
   partial = kept_more read line old.partial.items new.partial.items stands.partial partial ∙ ap (take kept) (sym (last_more read line is));
   served = subst (λ (ls : List (List ℕ)). Served ls before now new) (sym (whole_more read line is))

@@ -92,7 +92,7 @@ impl Session {
     }
 
     // Takes the last bytes of a piece, which no newline ends.
-    fn hold(&mut self, bytes: &[u8]) -> Fed
+    fn keep_rest(&mut self, bytes: &[u8]) -> Fed
         requires sound { IsSound self.old.daemon }
         requires small { IsSmall self.old }
         requires line { IsLine bytes.now }
@@ -127,7 +127,7 @@ impl Session {
             }
             rest = next;
         }
-        self.hold(rest)
+        self.keep_rest(rest)
     }
 
     /// Serves the last line, which no newline ends.

@@ -124,12 +124,12 @@ mod tests {
     #[test]
     fn a_line_that_is_too_long(rt: HostRuntime) -> Result<(), Fail> {
         let mut script = vec![in rt.alloc(); b'#'; 1_048_577]?;
-        script.extend_from_slice(b"\nfoo\nend\n")?;
+        script.extend_from_slice(b"\nenter 1 7\nend\n")?;
         let mut input = source(rt.alloc(), script.as_slice(), &[])?;
         let mut output = sink(rt.alloc(), &[])?;
         let ended = replay(rt.alloc(), 1, &mut input, &mut output);
         assert_eq!(rt; ended.status, 0);
-        assert_eq!(rt; output.bytes(), b"unread\nunread\n".as_slice());
+        assert_eq!(rt; output.bytes(), b"unread\nentered\n".as_slice());
         Ok(())
     }
 
