@@ -1,4 +1,4 @@
-//! Reads a script of requests and worker steps, and writes what the daemon answers.
+//! Floor of the program: reads a script of requests and worker steps, and writes what the daemon answers.
 #![tactic(auto)]
 
 mod daemon;

@@ -1,4 +1,4 @@
-//! Where the bytes of files come from: what a store promises, and a store in memory.
+//! Floor of ports: where the bytes of files come from: what a store promises, and a store in memory.
 #![tactic(auto)]
 
 mod fetched;

@@ -1,4 +1,4 @@
-//! Where bytes come from and where they go: sources and sinks that count their faults, over readers
+//! Floor of values: where bytes come from and where they go: sources and sinks that count their faults, over readers
 //! and writers of std and in memory.
 #![tactic(auto)]
 

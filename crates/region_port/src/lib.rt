@@ -1,4 +1,4 @@
-//! A disk and the parts of it that it lends: what their calls promise, and a form of both in memory.
+//! Floor of ports: a disk and the parts of it that it lends: what their calls promise, and a form of both in memory.
 #![tactic(auto)]
 
 mod counts;

@@ -1,4 +1,4 @@
-//! What a make does: the acts that make a part of a disk have a tree, and where the bytes of each file come from.
+//! Floor of books: what a make does: the acts that make a part of a disk have a tree, and where the bytes of each file come from.
 #![tactic(auto)]
 
 mod act;
