@@ -1,14 +1,15 @@
 -- What holds of the history of a run at each point.
 use Rattle.std.specs.Prelude.{◌≡◌, Bool, true, false, []}
 use Rattle.std.specs.List.{list_all}
-use Rattle.mat_model.specs.History.{IsLegal, Opening, book_of, is_of, point_of}
+use Rattle.mat_model.specs.History.{IsLegal, book_of, is_of, point_of}
+use Rattle.mat_model.specs.declared.opening.Opening.{Opening}
 use Rattle.mat_model.specs.WorkState.{Way, WayOf, copied, held, store}
 use Rattle.buckd.specs.declared.daemon.Run.{Run}
 use Rattle.buckd.specs.Run.{Point, empty_book}
 
--- a daemon begins with an empty book and an empty disk
+-- a daemon begins with no kept row and an empty disk
 abbrev pub new_daemon : Opening
-new_daemon = record { book = empty_book; strays = [] }
+new_daemon = record { rows = []; version1 = []; lost = []; strays = [] }
 
 -- whether a row's bytes come from no other row
 abbrev pub is_own : Way → Bool

@@ -21,9 +21,13 @@ invalidate number command path book = if_live command book (record {
   book = without_rows number (filter (overlaps_row path) book.rows) (filter (is_clear_of path) book.rows) book;
 })
 
+-- whether a hold's path overlaps a path
+abbrev pub holds_path : List (List ℕ) → Hold → Bool
+holds_path path hold = overlap hold.path path
+
 -- whether a hold is on a path that overlaps a row's
 abbrev pub holds_row : Row → Hold → Bool
-holds_row row hold = overlap hold.path row.path
+holds_row row hold = holds_path row.path hold
 
 -- whether a row is held
 abbrev pub is_held : List Hold → Row → Bool

@@ -1,5 +1,5 @@
 -- The gate: which commands are live, and who waits.
-use Rattle.std.specs.Prelude.{ℕ, ◌==◌, nat_lt, ◌+◌, ◌&&◌, ◌||◌, Bool, true, false, true, not, if◌then◌else◌, List, [], ◌∷◌, ◌++◌, length, filter, Option, Some, None}
+use Rattle.std.specs.Prelude.{ℕ, ◌==◌, nat_lt, ◌+◌, ◌&&◌, ◌||◌, Bool, true, false, not, if◌then◌else◌, List, [], ◌∷◌, ◌++◌, length, filter, Option, Some, None}
 use Rattle.std.specs.List.{list_any}
 use Rattle.mat_model.specs.declared.book.Book.{Book}
 use Rattle.mat_model.specs.declared.book.Waiter.{Waiter}

@@ -1,4 +1,6 @@
 -- What a history means: the book, the work state and the stored rows after each entry, and the rules that make it a legal one.
+use Rattle.mat_model.specs.Openings.{kept_at_opening, opening_debris, recovered}
+use Rattle.mat_model.specs.declared.opening.Opening.{Opening}
 use Rattle.std.specs.Prelude.{◌≡◌, ◌⊎◌, ℕ, ◌+◌, ◌-◌, ◌^◌, ◌<◌, ◌≤◌, ◌==◌, ◌&&◌, Bool, true, false, not, if◌then◌else◌, List, [], ◌∷◌, ◌++◌, length, count_by, map, Option, Some, None}
 use Rattle.std.specs.List.{list_any}
 use Rattle.mat_tree.specs.declared.flat.Flat.{Flat}
@@ -21,15 +23,10 @@ use Rattle.mat_model.specs.declared.requests.Asked.{Asked}
 use Rattle.mat_model.specs.declared.requests.Asked.TheVariants as asked
 use Rattle.mat_model.specs.Declarations.{declared_at}
 use Rattle.mat_model.specs.Gate.{Served}
-use Rattle.mat_model.specs.Kept.{KeptRow, due, kept_asked, kept_begun, kept_done, kept_row, may_fail, overlaps_kept}
+use Rattle.mat_model.specs.Kept.{KeptRow, due, kept_asked, kept_begun, kept_done, may_fail, overlaps_kept}
 use Rattle.mat_model.specs.Requests.{RequestContext, at_moment, serve}
 use Rattle.mat_model.specs.Work.{finish, refuse}
 use Rattle.mat_model.specs.WorkState.{Job, WorkState, ended, first_task, idle_work, path_of_task, refused, running, started, strays, work_asked}
-
--- what a daemon begins with: a book, whose rows are the stored ones, and the strays that the disk has
-pub record Opening : Type 0 where
-  pub book : Book
-  pub strays : List (List (List ℕ))
 
 -- what a history has led to: its entries so far, the book, the work state, the stored rows, and how many nodes were declared
 pub record Point : Type 0 where
@@ -43,9 +40,9 @@ pub record Point : Type 0 where
 abbrev pub opened : Opening → Point
 opened opening = record {
   history = [];
-  book = opening.book;
-  work = idle_work opening.strays;
-  kept = map kept_row opening.book.rows;
+  book = recovered opening;
+  work = idle_work (opening_debris opening);
+  kept = map (kept_at_opening opening) opening.rows;
   nodes = 0;
 }
 

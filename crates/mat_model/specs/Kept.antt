@@ -1,5 +1,5 @@
 -- What the state store has: the rows that a restart would count as standing.
-use Rattle.std.specs.Prelude.{ℕ, ◌==◌, nat_lt, ◌&&◌, Bool, false, not, if◌then◌else◌, List, [], ◌∷◌, length, filter}
+use Rattle.std.specs.Prelude.{ℕ, ◌==◌, nat_lt, ◌&&◌, Bool, true, false, not, if◌then◌else◌, List, [], ◌∷◌, length, filter}
 use Rattle.std.specs.List.{list_any}
 use Rattle.mat_path.specs.Names.{overlap, same_names}
 use Rattle.mat_tree.specs.declared.flat.Flat.{Flat}
@@ -16,19 +16,23 @@ use Rattle.mat_model.specs.declared.requests.Asked.TheVariants as asked
 use Rattle.mat_model.specs.declared.requests.CleanMode.TheVariants as mode
 use Rattle.mat_model.specs.Cleaning.{stale}
 use Rattle.mat_model.specs.Gate.{is_live}
-use Rattle.mat_model.specs.Rows.{comes_before, is_at_path, is_standing}
+use Rattle.mat_model.specs.Rows.{comes_before, is_at_path}
 use Rattle.mat_model.specs.Work.{is_declared}
 use Rattle.mat_model.specs.WorkState.{path_of_task}
 
--- a row as it was stored: its path, its tree and its last use then
+-- a row as it was stored: its path, its tree and its last use then, and whether its bytes are of the version that is written now
 pub record KeptRow : Type 0 where
   pub path : List (List ℕ)
   pub tree : List Flat
   pub last : ℕ
+  pub new : Bool
 
--- a row as it is stored
+-- a row as it is stored, in the version that is written now or in the first one
+abbrev pub kept_as : Bool → Row → KeptRow
+kept_as new row = record { path = row.path; tree = row.tree; last = row.last; new = new }
+
 abbrev pub kept_row : Row → KeptRow
-kept_row row = record { path = row.path; tree = row.tree; last = row.last }
+kept_row row = kept_as true row
 
 -- a stored row in its place in path order, in the place of the one at its path
 abbrev pub put_kept : KeptRow → List KeptRow → List KeptRow
@@ -57,11 +61,11 @@ is_listed gone row = list_any (λ (one : Gone). same_names one.path row.path) go
 abbrev pub is_unlisted : List Gone → KeptRow → Bool
 is_unlisted gone row = not (is_listed gone row)
 
--- whether a row is stored with its last use
+-- whether a row is stored with its last use, in the version that is written now
 abbrev pub is_stored_as : Row → KeptRow → Bool
-is_stored_as row kept = same_names kept.path row.path && (kept.last == row.last)
+is_stored_as row kept = same_names kept.path row.path && (kept.last == row.last) && kept.new
 
--- whether a row is due: it stands, and isn't stored with its last use
+-- whether a row is due: it stands, and isn't stored so
 abbrev pub is_due : List KeptRow → Row → Bool
 is_due kept row = row.stands && not (list_any (is_stored_as row) kept)
 
@@ -86,7 +90,7 @@ may_fail _ book kept = false
 abbrev pub kept_asked : Asked → Reply → List Row → List KeptRow → List KeptRow
 kept_asked (asked.Invalidate command path) (reply.Invalid count) rows kept = filter (is_kept_clear path) kept
 kept_asked request (reply.Cleaned false gone strays) rows kept = filter (is_unlisted gone) kept
-kept_asked request (reply.Flushed count) rows kept = store_rows (filter is_standing rows) kept
+kept_asked request (reply.Flushed count) rows kept = store_rows (filter (is_due kept) rows) kept
 kept_asked _ _ rows kept = kept
 
 -- what is stored after a job began

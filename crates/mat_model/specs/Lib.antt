@@ -7,7 +7,9 @@ pub mod Requests
 pub mod Work
 pub mod WorkState
 pub mod Kept
+pub mod Books
+pub mod Openings
 pub mod History
+pub mod Drained
 pub mod Room
 pub mod OnDisk
-pub mod Books

@@ -1,4 +1,5 @@
 -- The work state: where the bytes of each row come from, which jobs run, which parts of the disk belong to no row, and what comes first.
+use Rattle.mat_tree.specs.declared.flat.Flat.{Flat}
 use Rattle.std.specs.Prelude.{ℕ, ◌==◌, ◌&&◌, ◌||◌, Bool, true, false, not, if◌then◌else◌, List, [], ◌∷◌, ◌++◌, length, drop, map, filter, find, Option, Some, None}
 use Rattle.std.specs.List.{list_any}
 use Rattle.std.specs.Option.{option_and_then, option_map, option_map_or, option_or}
@@ -31,10 +32,11 @@ pub record WayOf : Type 0 where
   pub stamp : ℕ
   pub way : Way
 
--- a row's part that a job reads, by the row's path and stamp
+-- a row's part that a job reads, by the row's path and stamp, with the tree that the row had when the job began
 pub record Lent : Type 0 where
   pub path : List (List ℕ)
   pub stamp : ℕ
+  pub tree : List Flat
 
 -- a job that runs: the history number of its begin, who began it, its task, and the part that it reads, if it reads one
 pub record Job : Type 0 where
@@ -122,11 +124,13 @@ is_lent path jobs = list_any (has_loan path) jobs
 abbrev pub stands_as : List (List ℕ) → ℕ → Row → Bool
 stands_as path stamp row = is_declared path stamp row && row.stands
 
+abbrev pub lent_of : List (List ℕ) → ℕ → Row → Lent
+lent_of path stamp row = record { path = path; stamp = stamp; tree = row.tree }
+
 abbrev pub lent_by : Way → List Row → Option Lent
 lent_by held rows = None
 lent_by store rows = None
-lent_by (copied source rest stamp holds) rows =
-    if list_any (stands_as source stamp) rows then Some (record { path = source; stamp = stamp }) else None
+lent_by (copied source rest stamp holds) rows = option_map (lent_of source stamp) (find (stands_as source stamp) rows)
 
 -- the part that a task reads
 abbrev pub lent_for : Task → List Row → List WayOf → Option Lent
@@ -157,6 +161,10 @@ is_stray jobs debris = not debris.condemned && not (is_lent debris.path jobs)
 
 abbrev pub path_of_debris : Debris → List (List ℕ)
 path_of_debris debris = debris.path
+
+-- whether debris is condemned
+abbrev pub is_condemned : Debris → Bool
+is_condemned debris = debris.condemned
 
 -- the strays of a work state, in path order
 abbrev pub strays : WorkState → List (List (List ℕ))
@@ -351,10 +359,6 @@ first_make work rows (ticket ∷ tickets) = option_or (task_of work rows ticket)
 abbrev pub first_task : WorkState → Book → Option Task
 first_task work book = option_or (first_wipe work book) (first_make work book.rows book.tickets)
 
--- a stray of an opening as debris
-abbrev pub stray_debris : List (List ℕ) → Debris
-stray_debris path = record { path = path; condemned = false }
-
--- the work state at an opening with some strays
-abbrev pub idle_work : List (List (List ℕ)) → WorkState
-idle_work paths = record { ways = []; jobs = []; dirty = []; debris = map stray_debris paths; cleaned = [] }
+-- the work state at an opening with some debris
+abbrev pub idle_work : List Debris → WorkState
+idle_work debris = record { ways = []; jobs = []; dirty = []; debris = debris; cleaned = [] }

@@ -8,7 +8,7 @@ use Rattle.mat_model.specs.declared.answers.Reply.TheVariants as reply
 use Rattle.mat_model.specs.declared.entries.Entry.{Entry}
 use Rattle.mat_model.specs.declared.requests.CleanMode.TheVariants as mode
 use Rattle.model_examples.specs.FirstRuns.{asks, empty_book, enters, writes}
-use Rattle.mat_model.specs.History.{Opening}
+use Rattle.mat_model.specs.declared.opening.Opening.{Opening}
 use Rattle.model_examples.specs.Steps.{cleans, done, entry, entry_at, leaves, made, makes, path_p, path_q, stored, wiped, wipes}
 
 -- the reply that nothing was cleaned
@@ -58,7 +58,7 @@ wiped_run digest =
 
 -- a daemon that begins with a disk that has something at `p`, of which the book knows nothing
 abbrev pub stray_daemon : Opening
-stray_daemon = record { book = empty_book; strays = path_p ∷ [] }
+stray_daemon = record { rows = []; version1 = []; lost = []; strays = path_p ∷ [] }
 
 -- a clean that is not of all
 abbrev pub stray_run : List Entry
@@ -83,17 +83,16 @@ stray_wiped_run =
 -- a daemon that begins with a row of a file at `p`, and with something at `q`
 abbrev pub mixed_daemon : Digest → Opening
 mixed_daemon digest = record {
-  book = record empty_book {
-    first = 1;
-    rows = record {
-      path = path_p;
-      tree = file_tree digest false;
-      sum = file_sum digest false;
-      stamp = 0;
-      stands = true;
-      last = 0;
-    } ∷ [];
-  };
+  rows = record {
+    path = path_p;
+    tree = file_tree digest false;
+    sum = file_sum digest false;
+    stamp = 0;
+    stands = true;
+    last = 0;
+  } ∷ [];
+  version1 = [];
+  lost = [];
   strays = path_q ∷ [];
 }
 

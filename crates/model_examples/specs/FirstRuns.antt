@@ -13,7 +13,8 @@ use Rattle.mat_model.specs.declared.entries.Outcome.TheVariants as outcome
 use Rattle.mat_model.specs.declared.entries.Task.TheVariants as task
 use Rattle.mat_model.specs.declared.requests.Asked.TheVariants as asked
 use Rattle.mat_model.specs.Gate.{Served}
-use Rattle.mat_model.specs.History.{Opening, answer, point_of}
+use Rattle.mat_model.specs.History.{answer, point_of}
+use Rattle.mat_model.specs.declared.opening.Opening.{Opening}
 
 -- the book that knows nothing yet
 abbrev pub empty_book : Book
@@ -30,7 +31,7 @@ empty_book = record {
 
 -- a daemon that begins with nothing
 abbrev pub new_daemon : Opening
-new_daemon = record { book = empty_book; strays = [] }
+new_daemon = record { rows = []; version1 = []; lost = []; strays = [] }
 
 -- the path `out`
 abbrev pub out_path : List (List ℕ)

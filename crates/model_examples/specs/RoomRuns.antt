@@ -10,7 +10,7 @@ use Rattle.mat_model.specs.declared.entries.Entry.{Entry}
 use Rattle.mat_model.specs.declared.entries.Event.{Event}
 use Rattle.mat_model.specs.declared.limits.Limits.{Limits}
 use Rattle.model_examples.specs.FirstRuns.{asks, empty_book, enters, new_daemon, writes}
-use Rattle.mat_model.specs.History.{Opening, point_of}
+use Rattle.mat_model.specs.History.{Point, opened, point_of}
 use Rattle.mat_model.specs.Room.{full_event}
 use Rattle.model_examples.specs.Steps.{declares, digest_a, entry, path_p}
 
@@ -55,6 +55,6 @@ crowded count = record empty_book {
   waiting = map waits_for_eight (commands 64 count);
 }
 
--- a daemon at that book
-abbrev pub crowded_daemon : ℕ → Opening
-crowded_daemon count = record { book = crowded count; strays = [] }
+-- a point with that book
+abbrev pub crowded_point : ℕ → Point
+crowded_point count = record (opened new_daemon) { book = crowded count }

@@ -6,7 +6,7 @@ use Rattle.mat_model.specs.declared.answers.Reply.TheVariants as reply
 use Rattle.mat_model.specs.declared.book.Row.{Row}
 use Rattle.mat_model.specs.declared.entries.Entry.{Entry}
 use Rattle.model_examples.specs.FirstRuns.{asks, empty_book, enters, writes}
-use Rattle.mat_model.specs.History.{Opening}
+use Rattle.mat_model.specs.declared.opening.Opening.{Opening}
 use Rattle.model_examples.specs.Steps.{digest_a, digest_b, entry, flushes, made, makes, path_p, removes, store_note}
 
 -- the row of the file `a` at `p`, as it stands when a daemon begins with it
@@ -22,7 +22,7 @@ stored_row = record {
 
 -- a daemon that begins with this row
 abbrev pub stored_daemon : Opening
-stored_daemon = record { book = record empty_book { first = 1; rows = stored_row ∷ [] }; strays = [] }
+stored_daemon = record { rows = stored_row ∷ []; version1 = []; lost = []; strays = [] }
 
 -- another file is written there and asked for, and its make can't begin, since the store fails to remove the old row
 abbrev pub refused_run : List Entry

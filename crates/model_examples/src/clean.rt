@@ -30,7 +30,7 @@ pub fn spared_row_stays()
         } ∷ [] }
     ensures kept { (digest : Digest) →
         (point_of new_daemon (spared_run digest)).kept
-        ≡ record { path = path_p; tree = file_tree digest false; last = 5 } ∷ [] }
+        ≡ record { path = path_p; tree = file_tree digest false; last = 5; new = true } ∷ [] }
     ensures task { (digest : Digest) →
         first_task (point_of new_daemon (spared_run digest)).work (book_of new_daemon (spared_run digest)) ≡ None }
 {}

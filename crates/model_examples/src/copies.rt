@@ -34,7 +34,7 @@ pub fn standing_source_is_lent()
           number = 7;
           caller = 0;
           task = task.Make path_q 2;
-          lent = Some (record { path = path_p; stamp = 1 });
+          lent = Some (record { path = path_p; stamp = 1; tree = file_tree digest_a false });
         } ∷ [] }
 {}
 
@@ -98,7 +98,7 @@ pub fn lent_source_is_no_debris()
           number = 9;
           caller = 0;
           task = task.Make path_q 7;
-          lent = Some (record { path = path_p; stamp = 1 });
+          lent = Some (record { path = path_p; stamp = 1; tree = file_tree digest false });
         } ∷ [] }
     ensures debris { (digest : Digest) → (point_of new_daemon (lent_cleaned digest)).work.debris ≡ [] }
     ensures task { (digest : Digest) →

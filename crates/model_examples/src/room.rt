@@ -5,7 +5,7 @@ ghost use Rattle.mat_model.specs.declared.answers.Limit.TheVariants as limit;
 ghost use Rattle.mat_model.specs.declared.answers.Reply.TheVariants as reply;
 ghost use Rattle.model_examples.specs.FirstRuns.{asks, enters, writes};
 ghost use Rattle.model_examples.specs.DeclareRuns.{equal_run};
-ghost use Rattle.model_examples.specs.RoomRuns.{asked_once, crowded_daemon, declared_run, entered_run, full_next, roomy, written_run};
+ghost use Rattle.model_examples.specs.RoomRuns.{asked_once, crowded_point, declared_run, entered_run, full_next, roomy, written_run};
 ghost use Rattle.mat_model.specs.History.{answer, point_of};
 ghost use Rattle.mat_model.specs.Room.{full_event};
 ghost use Rattle.model_examples.specs.Steps.{copies, declares, digest_a, digest_b, leaves, looks, path_p, path_q};
@@ -58,8 +58,8 @@ pub fn tickets_are_counted()
 
 /// With 64 commands live the next one waits, for the live state too, and with 64 that wait there is no place.
 pub fn queue_has_64_places()
-    ensures first { (answer (point_of (crowded_daemon 0) []) 0 (enters 200 7) reply.Started).reply ≡ reply.Queued 1 }
-    ensures last { full_event roomy (point_of (crowded_daemon 63) []) 0 (enters 200 7) ≡ None }
-    ensures none { full_event roomy (point_of (crowded_daemon 64) []) 0 (enters 200 7) ≡ Some limit.Waiting }
-    ensures known { full_event roomy (point_of (crowded_daemon 64) []) 0 (enters 100 7) ≡ None }
+    ensures first { (answer (crowded_point 0) 0 (enters 200 7) reply.Started).reply ≡ reply.Queued 1 }
+    ensures last { full_event roomy (crowded_point 63) 0 (enters 200 7) ≡ None }
+    ensures none { full_event roomy (crowded_point 64) 0 (enters 200 7) ≡ Some limit.Waiting }
+    ensures known { full_event roomy (crowded_point 64) 0 (enters 100 7) ≡ None }
 {}

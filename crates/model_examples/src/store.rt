@@ -39,7 +39,7 @@ pub fn refused_make_answers()
           answered = Some (record { at = 4; answer = answer.Fault (store_note 0 1) });
         } ∷ [] }
     ensures kept { (point_of stored_daemon refused_run).kept
-        ≡ record { path = path_p; tree = file_tree digest_a false; last = 0 } ∷ [] }
+        ≡ record { path = path_p; tree = file_tree digest_a false; last = 0; new = true } ∷ [] }
     ensures jobs { (point_of stored_daemon refused_run).work.jobs ≡ [] }
     ensures debris { (point_of stored_daemon refused_run).work.debris ≡ record { path = path_p; condemned = false } ∷ [] }
     ensures task { first_task (point_of stored_daemon refused_run).work (book_of stored_daemon refused_run) ≡ None }
@@ -69,7 +69,7 @@ pub fn row_stands_unstored()
 /// A flush stores the row.
 pub fn flush_stores_row()
     ensures { (point_of stored_daemon flushed_run).kept
-        ≡ record { path = path_p; tree = file_tree digest_b false; last = 0 } ∷ [] }
+        ≡ record { path = path_p; tree = file_tree digest_b false; last = 0; new = true } ∷ [] }
 {}
 
 /// A removal that fails leaves the book as it was, and what is stored.

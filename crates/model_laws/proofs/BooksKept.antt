@@ -1,4 +1,6 @@
 -- The rules of a book together: each event keeps them, and so does each history. What they say of an open ticket and of who waits.
+use Rattle.mat_model.specs.Openings.{IsOpening, recovered}
+use Rattle.mat_model.specs.declared.opening.Opening.{Opening}
 use Rattle.std.proofs.Common.{◌≡◌, ◌≢◌, ℕ, ◌+◌, ◌<◌, ◌≤◌, ◌==◌, max, nat_lt, true, false, ◌&&◌, List, [], ◌∷◌, ◌++◌, Option, Some, None, inl, inr, refl, sym, ap, subst, ◌∙◌, ◌⊎◌, map, Contains, count_by, length, length-append, arith}
 use Rattle.std.specs.List.{All, AllPairs}
 use Rattle.std.specs.Option.{is_none}
@@ -20,7 +22,7 @@ use Rattle.mat_model.specs.declared.entries.Task.{Task}
 use Rattle.mat_model.specs.declared.requests.Asked.{Asked}
 use Rattle.mat_model.specs.Books.{IsAsking, IsAwaited, IsAwaitedOnce, IsBook, IsIdle, IsOtherHold, IsSummed, WaitsRightly, command_of, commands, is_held_back, lies_over, number_of}
 use Rattle.mat_model.specs.Gate.{is_live, is_nobody, is_state, is_waiting}
-use Rattle.mat_model.specs.History.{Opening, Point, after, after_all, request_context, book_of, next_number, opened, point_of}
+use Rattle.mat_model.specs.History.{Point, after, after_all, request_context, book_of, next_number, opened, point_of}
 use Rattle.model_laws.specs.Laws.{IsGated}
 use Rattle.mat_model.specs.Requests.{RequestContext, at_moment, is_open_of, leave, serve}
 use Rattle.mat_model.specs.Rows.{are_apart, covers}
@@ -156,13 +158,6 @@ pub history_rules : (point : Point) (later : List Entry) → IsBook (next_number
 history_rules point [] rules = rules
 history_rules point (entry ∷ later) rules = history_rules (after point entry) later (entry_rules point entry rules)
 
--- every history keeps the rules that its opening keeps
-pub opened_rules : (opening : Opening) (history : List Entry) → IsBook opening.book.first opening.book →
-    IsBook (next_number (point_of opening history)) (book_of opening history)
-opened_rules opening history rules =
-    history_rules (opened opening) history
-    (subst (λ (n : ℕ). IsBook n opening.book) (omega arith) rules)
-
 -- exactly one row covers what an open ticket asks for, and it doesn't stand
 pub ticket_waits : (next : ℕ) (book : Book) (ticket : Ticket) → IsBook next book → Contains book.tickets ticket → is_open ticket ≡ true →
     IsAwaitedOnce book.rows ticket.asked
@@ -242,3 +237,11 @@ idle_rules next book idle apart sums = record {
   asking = subst (λ (ts : List Ticket). All (IsAsking book.live) ts) (sym idle.tickets) (All-nil (IsAsking book.live));
   covered = subst (λ (ts : List Ticket). All (IsAwaited book.rows) ts) (sym idle.tickets) (All-nil (IsAwaited book.rows));
 }
+
+-- the book that a right opening recovers keeps the rules, and so does the book that any history leads to from there
+pub opened_rules : (opening : Opening) (history : List Entry) → IsOpening opening →
+    IsBook (next_number (point_of opening history)) (book_of opening history)
+opened_rules opening history right =
+    history_rules (opened opening) history
+    (idle_rules (next_number (opened opening)) (recovered opening)
+    (record { live = refl; state = refl; waiting = refl; holds = refl; tickets = refl }) right.apart right.sums)

@@ -1,3 +1,5 @@
+ghost use Rattle.mat_model.specs.declared.opening.Opening.{Opening};
+ghost use Rattle.mat_model.specs.Openings.{IsOpening};
 ghost use Rattle.mat_model.specs.Gate.{is_nobody};
 ghost use Rattle.std.specs.Prelude.{◌≡◌, ◌+◌, ◌≤◌, ℕ, List, [], ◌∷◌, length, count_by, true, false};
 ghost use Rattle.std.specs.List.{All, Contains};
@@ -14,7 +16,7 @@ ghost use Rattle.mat_model.specs.declared.entries.Task.{Task};
 ghost use Rattle.mat_model.specs.declared.limits.Limits.{Limits};
 ghost use Rattle.mat_model.specs.declared.requests.Asked.{Asked};
 ghost use Rattle.mat_model.specs.Books.{IsAwaitedOnce, IsBook, IsIdle, IsSummed, WaitsRightly};
-ghost use Rattle.mat_model.specs.History.{IsEach, Opening, Point, after_all, book_of, next_number, point_of};
+ghost use Rattle.mat_model.specs.History.{IsEach, Point, after_all, book_of, next_number, point_of};
 ghost use Rattle.mat_model.specs.Requests.{RequestContext, is_open_of, leave, serve};
 ghost use Rattle.mat_model.specs.Room.{HasRoom};
 ghost use Rattle.mat_model.specs.Rows.{are_apart};
@@ -47,10 +49,10 @@ pub fn history_keeps_rules()
         IsBook (next_number (after_all point later)) (after_all point later).book }
 {}
 
-/// From an opening whose book keeps the rules, every history leads to a book that does.
+/// From an opening that is right, every history leads to a book that keeps the rules.
 pub fn opening_keeps_rules()
     ensures { (opening : Opening) (history : List Entry) →
-        IsBook opening.book.first opening.book →
+        IsOpening opening →
         IsBook (next_number (point_of opening history)) (book_of opening history) }
 {}
 

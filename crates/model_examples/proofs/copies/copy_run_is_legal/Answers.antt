@@ -1,6 +1,7 @@
-use Rattle.std.proofs.Common.{None, Some, refl}
+use Rattle.mat_tree.specs.Trees.{file_tree}
+use Rattle.std.proofs.Common.{false, None, Some, refl}
 use Rattle.mat_model.specs.declared.entries.Task.TheVariants as task
-use Rattle.model_examples.specs.Steps.{path_p, path_q, path_r}
+use Rattle.model_examples.specs.Steps.{digest_a, path_p, path_q, path_r}
 use Rattle.model_examples.proofs.copies.copy_run_is_legal.Goals as goal
 
 pub returns : goal.returns
@@ -21,7 +22,7 @@ returns c = (
               (
                 record { reply = refl; moment = refl; number = refl; order = refl },
                 (
-                  record { reply = refl; moment = refl; number = refl; order = record { job = record { number = 7; caller = 0; task = task.Make path_q 2; lent = Some (record { path = path_p; stamp = 1 }) }; runs = refl; owned = refl; ends = refl } },
+                  record { reply = refl; moment = refl; number = refl; order = record { job = record { number = 7; caller = 0; task = task.Make path_q 2; lent = Some (record { path = path_p; stamp = 1; tree = file_tree digest_a false }) }; runs = refl; owned = refl; ends = refl } },
                   (
                     record { reply = refl; moment = refl; number = refl; order = tt },
                     (
