@@ -22,7 +22,7 @@ use Rattle.mat_model.specs.Rows.{covers, is_at_path}
 use Rattle.mat_model.specs.Tickets.{answered_by, is_open, waits_for, with_answer}
 use Rattle.mat_model.specs.Work.{end_make}
 use Rattle.mat_model.specs.WorkState.{WorkState, first_make, first_task, make_of, task_of}
-use Rattle.model_laws.proofs.BooksKept.{idle_rules, opened_rules}
+use Rattle.model_laws.proofs.BooksKept.{nothing_found, opened_rules}
 use Rattle.model_laws.proofs.BooksLists.{any_contains, none_counted}
 use Rattle.model_laws.proofs.BooksWork.{gives_work}
 use Rattle.model_laws.proofs.Elements.{found_passes}
@@ -137,8 +137,7 @@ first-waited work rows (ticket ∷ tickets) path stamp is =
 lawful_rules : (point : Point) → IsLawful point → IsBook (next_number (model_point new_daemon point.history)) point.book
 lawful_rules point lawful =
     subst (λ (b : Book). IsBook (next_number (model_point new_daemon point.history)) b) (sym lawful.book)
-    (opened_rules new_daemon point.history
-    (idle_rules 0 empty_book (record { live = refl; state = refl; waiting = refl; holds = refl; tickets = refl }) refl (All-nil IsSummed)))
+    (opened_rules new_daemon point.history nothing_found)
 
 -- where nothing comes first, no ticket is open
 none-first : (point : Point) → IsLawful point → first_task idle point.book ≡ None → list_any is_open point.book.tickets ≡ false

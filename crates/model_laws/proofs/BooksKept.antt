@@ -245,3 +245,18 @@ opened_rules opening history right =
     history_rules (opened opening) history
     (idle_rules (next_number (opened opening)) (recovered opening)
     (record { live = refl; state = refl; waiting = refl; holds = refl; tickets = refl }) right.apart right.sums)
+
+-- an opening that finds nothing is right
+pub nothing_found : IsOpening (record { rows = []; version1 = []; lost = []; strays = [] })
+nothing_found = record {
+  apart = refl;
+  standing = refl;
+  stamped = refl;
+  sums = All-nil IsSummed;
+  placed = refl;
+  old = refl;
+  named = refl;
+  strays = refl;
+  lost = refl;
+  free = λ path. omega arith;
+}
