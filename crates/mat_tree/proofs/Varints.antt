@@ -58,6 +58,7 @@ varint_short n = groups_few 10 n
 pub varint_one : (n : ℕ) → n < 128 → length (varint n) ≡ 1
 varint_one n h = ap length (varint_small n h)
 
+-- a varint of a number that one byte cannot hold is one byte longer than that of its rest
 pub varint_longer : (n : ℕ) → n < 2 ^ 64 → 128 ≤ n → length (varint n) ≡ 1 + length (varint (n / 128))
 varint_longer n h k = ap length (varint_step n h k) ∙ suc_is (length (varint (n / 128)))
   where
