@@ -21,7 +21,7 @@ all_right p xs ys e = second_so (list_all p xs) (list_all p ys) (sym (list_all-a
 pub all_join : {X : Type 0} (p : X → Bool) (xs ys : List X) → list_all p xs ≡ true → list_all p ys ≡ true → list_all p (xs ++ ys) ≡ true
 all_join p xs ys e f = list_all-append p xs ys ∙ and_from (list_all p xs) (list_all p ys) e f
 
--- what holds where a call succeeds, by what follows from it
+-- what is true where a call succeeds, and so what follows from it
 pub on_ok : {A E P Q : Type 0} (r : Result A E) → (P → Q) → OnOk r P → OnOk r Q
 on_ok (Ok a) f p = f p
 on_ok (Err e) f p = tt

@@ -4,7 +4,7 @@ use Rattle.mat_path.proofs.SameNames.{same_names-eq}
 use Rattle.std.proofs.Common.{◌≡◌, ℕ, zero, suc, ◌==◌, true, false, not, ◌&&◌, List, [], ◌∷◌, ◌++◌, length, drop, Option, Some, None, cond, refl, sym, ap, ap₂, ◌∙◌, map, find}
 use Rattle.std.specs.List.{list_any, filter, slice_get}
 use Rattle.std.specs.Option.{option_map}
-use Rattle.std.proofs.lemmas.Bool.{and_parts, both_ways, not-true}
+use Rattle.std.proofs.lemmas.Bool.{and_parts, both_ways, eqb-true, not-true}
 use Rattle.std.proofs.lemmas.Option.{slice_get-map}
 use Rattle.mat_path.specs.Names.{is_prefix}
 use Rattle.mat_tree.specs.declared.flat.Flat.{Flat}
@@ -24,10 +24,8 @@ use Rattle.mat_model.specs.Requests.{RequestContext, serve}
 use Rattle.mat_model.specs.Work.{end_make, finish, is_declared}
 use Rattle.model_laws.specs.Laws.{IsAnswered, IsLeftOut}
 use Rattle.model_laws.proofs.Changes.{standing-path}
-use Rattle.model_laws.proofs.Elements.{found_passes}
+use Rattle.model_laws.proofs.Elements.{found_contains, found_passes}
 use Rattle.model_laws.proofs.Serving.{served_by}
-use Rattle.std.proofs.lemmas.Bool.{eqb-true}
-use Rattle.model_laws.proofs.Elements.{found_contains}
 
 -- what is at a place of a list is there where more comes behind
 get-append : {A : Type 0} (xs ys : List A) (k : ℕ) (x : A) → slice_get xs k ≡ Some x → slice_get (xs ++ ys) k ≡ Some x

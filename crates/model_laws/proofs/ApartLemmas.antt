@@ -19,7 +19,7 @@ use Rattle.model_laws.proofs.Changes.{standing-path, used-path}
 use Rattle.model_laws.proofs.Serving.{finished_by, served_by}
 use Rattle.model_laws.proofs.HistoryLemmas.{after_event}
 
--- a part of rows that are apart is apart, and what is left beside a path overlaps nothing there
+-- what all of some rows pass, all that a filter leaves of them pass
 list_all-filter : (q p : Row → Bool) (rows : List Row) → list_all q rows ≡ true → list_all q (filter p rows) ≡ true
 list_all-filter q p [] all = refl
 list_all-filter q p (row ∷ rows) all =
@@ -28,6 +28,7 @@ list_all-filter q p (row ∷ rows) all =
     elim (p row) as (λ b. list_all q (cond b (row ∷ filter p rows) (filter p rows)) ≡ true)
     [ true ↦ and_from (q row) (list_all q (filter p rows)) parts.0 more | false ↦ more ]
 
+-- rows that are apart stay so where they are filtered
 apart-filter : (p : Row → Bool) (rows : List Row) → are_apart rows ≡ true → are_apart (filter p rows) ≡ true
 apart-filter p [] apart = refl
 apart-filter p (row ∷ rows) apart =
@@ -38,6 +39,7 @@ apart-filter p (row ∷ rows) apart =
       | false ↦ more
     ]
 
+-- of rows that are clear of a path none overlaps it
 clear-filter : (path : List (List ℕ)) (rows : List Row) → list_any (overlaps_row path) (filter (is_clear_of path) rows) ≡ false
 clear-filter path [] = refl
 clear-filter path (row ∷ rows) =
@@ -49,6 +51,7 @@ clear-filter path (row ∷ rows) =
       | false ↦ λ is. ap (λ (b : Bool). b || list_any (overlaps_row path) (filter (is_clear_of path) rows)) is ∙ more
     ] refl
 
+-- rows that are apart stay so where they are used
 used_apart : (path : List (List ℕ)) (n : ℕ) (rows : List Row) → are_apart rows ≡ true → are_apart (used path n rows) ≡ true
 used_apart path n rows apart = apart-map (used_row path n) (used-path path n) rows ∙ apart
 

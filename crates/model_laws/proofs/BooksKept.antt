@@ -106,7 +106,7 @@ refuse_rules number begun note book rules =
       covered = (ended_awaited number book rules.apart rules.covered).fails some (answer.Fault note);
     }
 
--- the rules hold at a later moment, and where the next number is greater
+-- the rules are kept at a later moment, and where the next number is greater
 later_rules : (number now : ℕ) (book : Book) → IsBook number book → IsBook (number + 1) (record book { now = now })
 later_rules number now book rules = record {
   apart = rules.apart;

@@ -3,7 +3,7 @@ use Rattle.mat_path.proofs.Elements.{contains_map}
 use Rattle.mat_path.proofs.SameNames.{same_name-refl, same_names-eq}
 use Rattle.std.proofs.Common.{◌≡◌, ℕ, ◌==◌, Bool, true, false, ◌&&◌, List, Some, None, cond, inl, inr, refl, sym, ap, subst, ◌∙◌, find}
 use Rattle.std.specs.List.{filter}
-use Rattle.std.proofs.lemmas.Bool.{and_from, and_parts}
+use Rattle.std.proofs.lemmas.Bool.{and_from, and_parts, eq-eqb}
 use Rattle.mat_path.specs.Names.{same_name}
 use Rattle.mat_tree.specs.declared.flat.Flat.{Flat}
 use Rattle.mat_tree.specs.declared.sum.Sum.{Sum}
@@ -15,18 +15,16 @@ use Rattle.mat_model.specs.Gate.{is_live}
 use Rattle.mat_model.specs.Rows.{is_at_path, is_clear_of, used_row}
 use Rattle.mat_model.specs.Declarations.{declare, declare_row, is_equal_row, new_row, write, written_tree}
 use Rattle.model_laws.specs.Laws.{HasDeclared}
-use Rattle.model_laws.proofs.Changes.{used-path, used-tree}
-use Rattle.model_laws.proofs.Elements.{found_passes}
-use Rattle.std.proofs.lemmas.Bool.{eq-eqb}
-use Rattle.model_laws.proofs.Elements.{found_contains}
-use Rattle.model_laws.proofs.Changes.{used-stamp}
+use Rattle.model_laws.proofs.Changes.{used-path, used-stamp, used-tree}
+use Rattle.model_laws.proofs.Elements.{found_contains, found_passes}
 use Rattle.model_laws.proofs.PutRows.{contains_new}
 
--- the tree of a file is the same as itself
+-- a flag is the same as itself
 same_flag : (b : Bool) → same_bool b b ≡ true
 same_flag true = refl
 same_flag false = refl
 
+-- the tree of a file is the same as itself
 same_file : (digest : Digest) (exec : Bool) → same_tree (file_tree digest exec) (file_tree digest exec) ≡ true
 same_file digest exec =
     and_from (same_digest digest digest && same_bool exec exec) true

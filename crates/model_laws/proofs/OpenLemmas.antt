@@ -15,9 +15,8 @@ use Rattle.mat_model.specs.Rows.{are_apart, covers}
 use Rattle.mat_model.specs.Tickets.{answered_by, is_open, waits_for, with_answer}
 use Rattle.mat_model.specs.Work.{end_make, finish, is_declared}
 use Rattle.mat_model.specs.WorkState.{WorkState, first_make, make_of, task_of}
-use Rattle.model_laws.proofs.Elements.{found_passes}
+use Rattle.model_laws.proofs.Elements.{found_contains, found_passes}
 use Rattle.model_laws.proofs.Makes.{make_of_parts, apart_declared, first_make_found}
-use Rattle.model_laws.proofs.Elements.{found_contains}
 
 -- the ticket that the first make is for waits for its row
 waits_first : (work : WorkState) (rows : List Row) (ticket : Ticket) (path : List (List ℕ)) (stamp : ℕ) (row : Row) → are_apart rows ≡ true →
