@@ -27,7 +27,8 @@ use Rattle.model_laws.proofs.BooksLists.{any_contains, none_counted}
 use Rattle.model_laws.proofs.BooksWork.{gives_work}
 use Rattle.model_laws.proofs.Elements.{found_passes}
 use Rattle.model_laws.proofs.Idle.{no_wipe}
-use Rattle.model_laws.proofs.Makes.{apart_at, first_make_found, found_contains, make_of_parts}
+use Rattle.model_laws.proofs.Elements.{found_contains}
+use Rattle.model_laws.proofs.Makes.{apart_at, first_make_found, make_of_parts}
 use Rattle.write_plan.specs.declared.act.Act.{Act}
 use Rattle.buckd.specs.declared.daemon.Daemon.{Daemon}
 use Rattle.buckd.specs.Daemon.{point_of, scene_of}

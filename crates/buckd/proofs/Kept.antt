@@ -50,11 +50,6 @@ use Rattle.buckd.proofs.Standing.{covered-map, covered-put_row, held-map, held-p
 use Rattle.buckd.proofs.Stepping.{make_first-none, makes-none, makes-suc}
 use Rattle.buckd.proofs.Supplied.{held-last, supplied-more, supplied-ordered, supplied-put_row, supplied-used}
 
--- what follows from a fact that holds where there is no error
-pub on_ok : {T E P Q : Type 0} (r : Result T E) → (P → Q) → OnOk r P → OnOk r Q
-on_ok (Ok value) more held = more held
-on_ok (Err error) more held = tt
-
 -- a daemon that keeps its rows is kept as it was
 pub kept-same : (history : List Entry) (old new : Daemon) → KeepsRows old new → IsKeptWith history old → IsKeptWith history new
 kept-same history old new same kept = record {

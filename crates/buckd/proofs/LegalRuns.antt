@@ -1,11 +1,10 @@
 -- A run's history is legal, and its book is the book of the history.
-use Rattle.mat_path.proofs.Elements.{contains_map}
+use Rattle.mat_path.proofs.Elements.{all_push, contains_map}
 use Rattle.mat_path.proofs.Bools.{and_false_right}
 use Rattle.std.proofs.Common.{◌≡◌, ℕ, zero, suc, ◌+◌, ◌==◌, max, Bool, true, false, not, ◌||◌, ◌&&◌, List, [], ◌∷◌, ◌++◌, length, count_by, Option, Some, None, cond, refl, sym, ap, ap₂, subst, ◌∙◌, Contains, find, filter, arith}
 use Rattle.std.specs.List.{list_any, list_all}
 use Rattle.std.specs.Option.{option_map_or}
-use Rattle.std.proofs.lemmas.Bool.{and_from, and_parts}
-use Rattle.std.proofs.lemmas.List.Folds.{list_all-append}
+use Rattle.std.proofs.lemmas.Bool.{and_from, and_parts, eq-eqb}
 use Rattle.mat_digest.specs.Digests.{digest_of}
 use Rattle.mat_digest.specs.declared.digest.Digest.{Digest}
 use Rattle.mat_tree.specs.declared.flat.Flat.{Flat}
@@ -40,8 +39,10 @@ use Rattle.mat_model.specs.Tickets.{is_open}
 use Rattle.mat_model.specs.Work.{end_make, finish, is_declared}
 use Rattle.mat_model.specs.WorkState.{Debris, Job, Lent, Way, WayOf, WorkState, add_debris, copied, ended, first_task, has_stamp, held, is_job, is_not_below, is_other_job, is_way_of, leaves_debris, lent_by, lent_for, made_work, removed_rows, returned, store, way_declared, way_of, way_within, ways_after, writes_lying}
 use Rattle.model_laws.proofs.Clear.{declare_clear}
-use Rattle.model_laws.proofs.Idle.{has_one, idle_first, itself, no_wipe, none_removed}
-use Rattle.model_laws.proofs.LawLemmas.{contains_put, history_apart, used-stamp}
+use Rattle.model_laws.proofs.Idle.{has_one, idle_first, no_wipe, none_removed}
+use Rattle.model_laws.proofs.ApartLemmas.{history_apart}
+use Rattle.model_laws.proofs.Changes.{used-stamp}
+use Rattle.model_laws.proofs.PutRows.{contains_put}
 use Rattle.model_laws.proofs.LegalLemmas.{KeepsClock, after_all-push, count_by-all, each-push, finish-clock, history-all, serve-clock}
 use Rattle.model_laws.proofs.Makes.{first_make_found}
 use Rattle.script_lang.specs.declared.items.Item.{Item}
@@ -70,10 +71,6 @@ start-at = record {
   ways = refl;
 }
 
-all-push : {A : Type 0} (p : A → Bool) (xs : List A) (x : A) → list_all p xs ≡ true → p x ≡ true → list_all p (xs ++ x ∷ []) ≡ true
-all-push p xs x before last =
-    list_all-append p xs (x ∷ []) ∙ ap₂ (λ (a b : Bool). a && (b && true)) before last
-
 -- where an event leads that is served as the definitions say
 led : (happened : Event) (served : Served) (point : Point) → answer (model point) 0 happened served.reply ≡ served →
     model (entered happened served point).point ≡ stepped (model point) (added happened served point) served
@@ -97,7 +94,7 @@ lawful-entered happened served point lawful is order clock =
     record {
       legal = each-push IsLegalEntry (opened new_daemon) point.history entry lawful.legal rule;
       book = sym (ap (λ (p : ModelPoint). p.book) (led happened served point is));
-      own = all-push (is_of 0) point.history entry lawful.own refl;
+      own = all_push (is_of 0) point.history entry lawful.own refl;
       first = clock.first ∙ lawful.first;
       now = moment;
     }
@@ -333,7 +330,7 @@ worked-at path stamp ends point at apart is may =
     ∙ ap (λ (ds : List Debris). filter (is_not_below path) ds) at.debris in
     let ways_one : list_all is_own_way (model one).work.ways ≡ true =
     ap (λ (p : ModelPoint). list_all is_own_way p.work.ways) led_one ∙ at.ways in
-    let mine : (job.number == next point) ≡ true = ap (λ (n : ℕ). n == next point) (number_is point at.lawful) ∙ itself (next point) in
+    let mine : (job.number == next point) ≡ true = ap (λ (n : ℕ). n == next point) (number_is point at.lawful) ∙ eq-eqb (next point) (next point) refl in
     let runs : find (is_job (next point)) (model one).work.jobs ≡ Some job =
     ap (λ (js : List Job). find (is_job (next point)) js) jobs_one ∙ ap (λ (b : Bool). cond b (Some job) None) mine in
     let served : Served = finish (next one) make ends recorded.Nothing one.book in

@@ -14,7 +14,7 @@ use Rattle.mat_tree.specs.declared.flat.Flat.{Flat}
 use Rattle.mat_model.specs.declared.book.Row.{Row}
 use Rattle.mat_model.specs.declared.entries.Entry.{Entry}
 use Rattle.mat_model.specs.Rows.{comes_before, overlaps_row, put_row, used_row}
-use Rattle.model_laws.proofs.LawLemmas.{used-stamp}
+use Rattle.model_laws.proofs.Changes.{used-stamp}
 use Rattle.model_laws.proofs.Changes.{used-path, used-tree}
 use Rattle.buckd.specs.Making.{IsAtHand}
 use Rattle.buckd.specs.Run.{is_held, is_write_entry}

@@ -11,8 +11,8 @@ use Rattle.mat_path.proofs.PathLemmas.{prefix-trans}
 use Rattle.mat_path.proofs.SameNames.{same_names-Decides, same_names-eq, same_names-refl}
 
 -- two paths of which each is a prefix where the other is count the same
-pub counts : (p q x : List (List ℕ)) → is_prefix p x ≡ is_prefix q x → ◌≡◌ {A = ℕ} (cond (is_prefix p x) 1 0) (cond (is_prefix q x) 1 0)
-counts p q x h = ap (λ (b : Bool). cond b 1 0) h
+pub counts_same : (p q x : List (List ℕ)) → is_prefix p x ≡ is_prefix q x → ◌≡◌ {A = ℕ} (cond (is_prefix p x) 1 0) (cond (is_prefix q x) 1 0)
+counts_same p q x h = ap (λ (b : Bool). cond b 1 0) h
 
 -- a prefix counts one
 one : (p x : List (List ℕ)) → is_prefix p x ≡ true → ◌≡◌ {A = ℕ} (cond (is_prefix p x) 1 0) 1
@@ -64,14 +64,14 @@ pub covering-map : (f : List (List ℕ) → List (List ℕ)) (x : List (List ℕ
     ((p : List (List ℕ)) → Contains ps p → is_prefix (f p) x ≡ is_prefix p x) → covering x (map f ps) ≡ covering x ps
 covering-map f x [] keeps = refl
 covering-map f x (p ∷ ps) keeps =
-    omega (arith, counts (f p) p x (keeps p (contains_first p ps)), covering-map f x ps (λ q among. keeps q (contains_more p ps q among)))
+    omega (arith, counts_same (f p) p x (keeps p (contains_first p ps)), covering-map f x ps (λ q among. keeps q (contains_more p ps q among)))
 
 -- a path that is among some counts where it is a prefix
 pub covering_among : (p x : List (List ℕ)) (ps : List (List (List ℕ))) → Contains ps p → cond (is_prefix p x) 1 0 ≤ covering x ps
 covering_among p x [] (k, within, at) = absurd (omega arith)
 covering_among p x (q ∷ ps) among =
     elim (contains_cases q ps p among) [
-      | inl same ↦ omega (arith, counts q p x (ap (λ (l : List (List ℕ)). is_prefix l x) same))
+      | inl same ↦ omega (arith, counts_same q p x (ap (λ (l : List (List ℕ)). is_prefix l x) same))
       | inr later ↦ omega (arith, covering_among p x ps later)
     ]
 

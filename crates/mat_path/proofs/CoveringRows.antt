@@ -4,7 +4,7 @@ use Rattle.std.specs.List.{filter}
 use Rattle.std.proofs.lemmas.Bool.{and_from, both_ways}
 use Rattle.mat_path.specs.Covering.{covering}
 use Rattle.mat_path.specs.Names.{is_prefix, overlap}
-use Rattle.mat_path.proofs.CoveringLemmas.{apart_across, counts, covering_among, covering_none}
+use Rattle.mat_path.proofs.CoveringLemmas.{apart_across, counts_same, covering_among, covering_none}
 use Rattle.mat_path.proofs.Elements.{contains_filter, contains_first, contains_map, contains_more, filtered_contains, mapped_contains}
 
 -- rows count the same by two names of which each is a prefix where the other is
@@ -12,7 +12,7 @@ pub covering_rows-names : {Y : Type 0} (name other : Y → List (List ℕ)) (x :
     ((y : Y) → Contains ys y → is_prefix (name y) x ≡ is_prefix (other y) x) → covering x (map name ys) ≡ covering x (map other ys)
 covering_rows-names name other x [] same = refl
 covering_rows-names name other x (y ∷ ys) same =
-    omega (arith, counts (name y) (other y) x (same y (contains_first y ys)), covering_rows-names name other x ys (λ z among. same z (contains_more y ys z among)))
+    omega (arith, counts_same (name y) (other y) x (same y (contains_first y ys)), covering_rows-names name other x ys (λ z among. same z (contains_more y ys z among)))
 
 -- rows that pass a test and those that pass its opposite count together
 pub covering_rows-split : {Y : Type 0} (name : Y → List (List ℕ)) (test other : Y → Bool) → ((y : Y) → other y ≡ not (test y)) →
@@ -96,7 +96,7 @@ pub covering_rows-map : {Y Z : Type 0} (f : Y → Z) (name : Z → List (List �
     covering x (map name (filter test (map f ys))) ≡ covering x (map name_before (filter test_before ys))
 covering_rows-map f name test name_before test_before x [] tests names = refl
 covering_rows-map f name test name_before test_before x (y ∷ ys) tests names =
-    by (test (f y)) (test_before y) (tests y (contains_first y ys)) (counts (name (f y)) (name_before y) x (names y (contains_first y ys)))
+    by (test (f y)) (test_before y) (tests y (contains_first y ys)) (counts_same (name (f y)) (name_before y) x (names y (contains_first y ys)))
     (covering_rows-map f name test name_before test_before x ys (λ z among. tests z (contains_more y ys z among)) (λ z among. names z (contains_more y ys z among)))
   where
     by : (b c : Bool) → b ≡ c → ◌≡◌ {A = ℕ} (cond (is_prefix (name (f y)) x) 1 0) (cond (is_prefix (name_before y) x) 1 0) →
@@ -181,6 +181,6 @@ covering_rows-exactly name test p x ys at most y among passes =
     omega (
       arith,
       covering_rows-at_most name test p x ys at most,
-      counts (name y) p x (ap (λ (l : List (List ℕ)). is_prefix l x) here),
+      counts_same (name y) p x (ap (λ (l : List (List ℕ)). is_prefix l x) here),
       covering_among (name y) x (map name (filter test ys)) (row_among name test ys y among passes),
     )

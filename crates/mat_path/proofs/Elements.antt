@@ -1,7 +1,8 @@
 -- Elements of a list that is cut, filtered or mapped.
-use Rattle.std.proofs.Common.{◌≡◌, zero, suc, Bool, true, false, cond, ◌⊎◌, inl, inr, List, [], ◌∷◌, refl, sym, ap, subst, ◌∙◌, map, Contains, arith}
-use Rattle.std.specs.List.{filter, list_any}
-use Rattle.std.proofs.lemmas.Bool.{or_from, or_parts}
+use Rattle.std.proofs.Common.{◌≡◌, zero, suc, Bool, true, false, ◌&&◌, cond, ◌⊎◌, inl, inr, List, [], ◌∷◌, ◌++◌, refl, sym, ap, subst, ◌∙◌, map, Contains, arith}
+use Rattle.std.specs.List.{filter, list_all, list_any}
+use Rattle.std.proofs.lemmas.Bool.{and_parts, or_from, or_parts}
+use Rattle.std.proofs.lemmas.List.Folds.{list_all-append}
 
 -- an element of a list is its first or one of the others
 pub contains_cases : {Y : Type 0} (y : Y) (ys : List Y) (z : Y) → Contains (y ∷ ys) z → (y ≡ z) ⊎ Contains ys z
@@ -78,3 +79,13 @@ pub none_passes : {Y : Type 0} (test : Y → Bool) (ys : List Y) → ((y : Y) �
 none_passes test [] fails = refl
 none_passes test (y ∷ ys) fails =
     or_from (test y) (list_any test ys) (fails y (contains_first y ys)) (none_passes test ys (λ z among. fails z (contains_more y ys z among)))
+
+-- a list all of which passes a test is kept whole by it
+pub filter_all : {Y : Type 0} (test : Y → Bool) (ys : List Y) → list_all test ys ≡ true → filter test ys ≡ ys
+filter_all test [] all = refl
+filter_all {Y = Y} test (y ∷ ys) all =
+    let parts = and_parts (test y) (list_all test ys) all in rw parts.0 (ap (λ (zs : List Y). y ∷ zs) (filter_all test ys parts.1))
+
+-- where all of some pass a test and one more passes it too, all of them together do
+pub all_push : {Y : Type 0} (test : Y → Bool) (ys : List Y) (y : Y) → list_all test ys ≡ true → test y ≡ true → list_all test (ys ++ y ∷ []) ≡ true
+all_push test ys y all passes = list_all-append test ys (y ∷ []) ∙ ap (λ b. b && (test y && true)) all ∙ ap (λ b. b && true) passes

@@ -1,5 +1,6 @@
 -- What reading one name or a target rests on.
 use Rattle.std.proofs.Common.{◌≡◌, ℕ, zero, suc, ◌+◌, ◌<◌, ◌≤◌, Bool, true, false, cond, not, ◌&&◌, ◌||◌, if◌then◌else◌, ltb, nat_eq, List, [], ◌∷◌, length, get_or, drop, Option, Some, None, is_none, option_and_then, option_map, position, refl, sym, ap, ap₂, ◌∙◌, subst, arith, drop-cons}
+use Rattle.std.proofs.Math.Bool.{and-true}
 use Rattle.std.proofs.Math.Dec.{eqb-suc-zero}
 use Rattle.std.specs.Option.{option_or}
 use Rattle.std.specs.List.{list_all, position_or_len}
@@ -31,8 +32,9 @@ two_of_text false false f h = h
 name_refusal_of_text : (text : List ℕ) → option_and_then of_text (name_refusal text) ≡ name_refusal text
 name_refusal_of_text text = two_of_text (nat_eq (length text) 0) (ltb 1024 (length text)) (first_name_fault text) (answers_of_text (name_fault_at text) (name_fault_of_text text) (length text))
 
-pub name_refused_is : (text : List ℕ) (refusal : PathRefusal) → name_refusal text ≡ Some refusal → of_text refusal ≡ Some refusal
-name_refused_is text refusal h = subst (λ (o : Option PathRefusal). option_and_then of_text o ≡ o) h (name_refusal_of_text text)
+-- a refusal of a name speaks of the text, never of memory
+pub name_refusal_is_of_text : (text : List ℕ) (refusal : PathRefusal) → name_refusal text ≡ Some refusal → of_text refusal ≡ Some refusal
+name_refusal_is_of_text text refusal h = subst (λ (o : Option PathRefusal). option_and_then of_text o ≡ o) h (name_refusal_of_text text)
 
 -- whether a whole text is neither dots nor too long for a name
 abbrev fits : List ℕ → Bool
@@ -92,12 +94,8 @@ first_name_fault_is text some =
     ∙ name_so_far text (length text) (omega arith)
     ∙ ap (λ (t : Bool). (t || fits text) && list_all is_name_byte text) some
   where
-    and_true : (b : Bool) → (b && true) ≡ b
-    and_true true = refl
-    and_true false = refl
-
     and_end : (a : Bool) (rest : List ℕ) → rest ≡ [] → (a && list_all is_name_byte rest) ≡ a
-    and_end a rest h = ap (λ (l : List ℕ). a && list_all is_name_byte l) h ∙ and_true a
+    and_end a rest h = ap (λ (l : List ℕ). a && list_all is_name_byte l) h ∙ and-true a
 
 name_bools : (l g d a : Bool) → (l ≡ true → g ≡ true) → (((true && not g) && a) && not d) ≡ (not l && ((not d && not g) && a))
 name_bools true g d a h = ap (λ (t : Bool). ((true && not t) && a) && not d) (h refl)
@@ -125,9 +123,11 @@ name_is (b ∷ more) =
     ∙ ap (λ (t : Bool). not (ltb 1024 (length text)) && t) (sym (first_name_fault_is text some))
     ∙ sym (two_bools (nat_eq (length text) 0) (ltb 1024 (length text)) (first_name_fault text) some)
 
-pub is_named : (text : List ℕ) → name_refusal text ≡ None → is_name text ≡ true
-is_named text h = name_is text ∙ ap is_none h
+-- a text that nothing refuses as a name is one
+pub unrefused_is_name : (text : List ℕ) → name_refusal text ≡ None → is_name text ≡ true
+unrefused_is_name text h = name_is text ∙ ap is_none h
 
+-- a text that something refuses as a name is none
 pub no_name : (text : List ℕ) (refusal : PathRefusal) → name_refusal text ≡ Some refusal → is_name text ≡ false
 no_name text refusal h = name_is text ∙ ap is_none h
 
@@ -159,8 +159,10 @@ target_is (b ∷ more) =
     ∙ ap (λ (t : Bool). not (ltb 1024 (length text)) && t) (sym (no_position_is text))
     ∙ sym (two_bools (nat_eq (length text) 0) (ltb 1024 (length text)) (option_map (λ at. why.BadByte at) (position (λ b. not (is_text_byte b)) text)) (eqb-suc-zero (length more)))
 
-pub is_targeted : (text bytes : List ℕ) → bytes ≡ text → target_refusal text ≡ None → is_target bytes ≡ true
-is_targeted text bytes same h = ap is_target same ∙ target_is text ∙ ap is_none h
+-- bytes of a text that nothing refuses as a target are one
+pub unrefused_is_target : (text bytes : List ℕ) → bytes ≡ text → target_refusal text ≡ None → is_target bytes ≡ true
+unrefused_is_target text bytes same h = ap is_target same ∙ target_is text ∙ ap is_none h
 
+-- a text that something refuses as a target is none
 pub no_target : (text : List ℕ) (refusal : PathRefusal) → target_refusal text ≡ Some refusal → is_target text ≡ false
 no_target text refusal h = target_is text ∙ ap is_none h

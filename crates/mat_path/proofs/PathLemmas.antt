@@ -1,24 +1,28 @@
 -- Lists of names as paths: prefixes, overlap, the order.
-use Rattle.mat_path.proofs.SameNames.{is_prefix-Decides, same_name-refl, same_names-Decides, same_names-eq, same_names-refl}
-use Rattle.std.proofs.Common.{◌≡◌, ◌≢◌, ℕ, Bool, true, false, ◌||◌, ◌&&◌, if◌then◌else◌, ◌⊎◌, inl, inr, List, [], ◌∷◌, ◌++◌, length, drop, Some, None, Decides, Ordering, Less, Equal, Greater, is_eq, refl, sym, ap, ap₂, ◌∙◌, subst, append_assoc, append-nil, drop_at}
+use Rattle.mat_path.proofs.SameNames.{is_prefix-Decides, same_name-refl, same_names-eq}
+use Rattle.std.proofs.Common.{◌≡◌, ℕ, Bool, true, false, ◌||◌, ◌&&◌, if◌then◌else◌, ◌⊎◌, inl, inr, List, [], ◌∷◌, ◌++◌, length, drop, Some, None, Ordering, Less, Equal, Greater, is_eq, refl, sym, ap, ap₂, ◌∙◌, subst, append_assoc, append-nil, drop_at}
 use Rattle.std.specs.Cmp.{IsTotalOrder}
 use Rattle.std.specs.Cmp.Lexicographic.{texts_ties}
-use Rattle.std.specs.Ordering.{ordering_then}
+use Rattle.std.specs.Ordering.{is_lt, ordering_then}
 use Rattle.std.proofs.lemmas.Bool.{both_ways, or_parts, or_left, or_right}
 use Rattle.std.proofs.lemmas.Cmp.{nat_list_cmp_total, lists_total, tied_itself}
-use Rattle.std.proofs.lemmas.Slice.Eq.{slice_eq-Decides, bytes_eq-Decides, starts_is}
-use Rattle.mat_path.specs.Names.{same_name, same_names, is_prefix, overlap, rest_below, name_cmp, path_cmp}
+use Rattle.std.proofs.lemmas.Slice.Eq.{bytes_eq-Decides}
+use Rattle.mat_path.specs.Names.{is_prefix, overlap, rest_below, name_cmp, path_cmp}
 use Rattle.mat_path.specs.Order.{same_names_ties}
 
+-- a path is its prefix and then the names behind that
 pub prefix_split : (p q : List (List ℕ)) → is_prefix p q ≡ true → q ≡ p ++ drop (length p) q
 prefix_split p q h = (is_prefix-Decides p q).0 h
 
+-- a path is a prefix of itself with more names behind it
 pub prefix-append : (p r : List (List ℕ)) → is_prefix p (p ++ r) ≡ true
 prefix-append p r = (is_prefix-Decides p (p ++ r)).1 r refl
 
+-- a path is a prefix of itself
 pub prefix-refl : (p : List (List ℕ)) → is_prefix p p ≡ true
 prefix-refl p = (is_prefix-Decides p p).1 [] (sym (append-nil p))
 
+-- a prefix of a path is a prefix of all that this path is a prefix of
 pub prefix-trans : (p q r : List (List ℕ)) → is_prefix p q ≡ true → is_prefix q r ≡ true → is_prefix p r ≡ true
 prefix-trans p q r h k =
     (is_prefix-Decides p r).1 (drop (length p) q ++ drop (length q) r)
@@ -41,6 +45,7 @@ fronts (x ∷ p) (y ∷ q) d r h =
       | inr w ↦ inr (w.0, ap₂ (λ (n : List ℕ) (l : List (List ℕ)). n ∷ l) head w.1)
     ]
 
+-- a prefix of a path with more names behind it overlaps that path
 pub prefix-append_cases : (p q r : List (List ℕ)) → is_prefix p (q ++ r) ≡ true → overlap p q ≡ true
 prefix-append_cases p q r h =
     elim (fronts p q (drop (length p) (q ++ r)) r (sym (prefix_split p (q ++ r) h))) [
@@ -48,6 +53,7 @@ prefix-append_cases p q r h =
       | inr w ↦ or_right (is_prefix p q) (is_prefix q p) ((is_prefix-Decides q p).1 w.0 w.1)
     ]
 
+-- whether two paths overlap is the same either way round
 pub overlap_comm : (p q : List (List ℕ)) → overlap p q ≡ overlap q p
 overlap_comm p q = or_comm (is_prefix p q) (is_prefix q p)
   where
@@ -57,16 +63,25 @@ overlap_comm p q = or_comm (is_prefix p q) (is_prefix q p)
     or_comm false true = refl
     or_comm false false = refl
 
+-- behind a path, what follows it in a longer one is the rest
 pub rest_below-append : (p r : List (List ℕ)) → rest_below p (p ++ r) ≡ Some r
 rest_below-append p r =
     ap (λ (t : Bool). if t then Some (drop (length p) (p ++ r)) else None) (prefix-append p r)
     ∙ ap (λ (l : List (List ℕ)). Some l) (drop_at p r (length p) refl)
 
+-- the order of paths is total
 pub path_cmp_total : IsTotalOrder path_cmp
 path_cmp_total = lists_total nat_list_cmp_total
 
+-- paths of which neither comes before the other are equal
 pub path_cmp_equal : (p q : List (List ℕ)) → path_cmp p q ≡ Equal → p ≡ q
 path_cmp_equal p q h = same_names-eq p q (same_names_ties p q ∙ ap is_eq h)
+
+-- an answer that says less is Less
+pub lt_less : (o : Ordering) → is_lt o ≡ true → o ≡ Less
+lt_less Less e = refl
+lt_less Equal e = cc
+lt_less Greater e = cc
 
 -- a name is neither before nor after itself
 pub name_cmp-refl : (a : List ℕ) → name_cmp a a ≡ Equal

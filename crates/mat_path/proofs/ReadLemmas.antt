@@ -1,5 +1,6 @@
 -- What reading a text rests on: cutting at slashes, and what the faults of a text tell of its names.
 use Rattle.std.proofs.Common.{◌≡◌, ℕ, zero, suc, ◌+◌, ◌<◌, ◌≤◌, Bool, true, false, cond, not, ◌&&◌, ◌||◌, if◌then◌else◌, eqb, ltb, leb, List, [], ◌∷◌, ◌++◌, length, get_or, take, drop, Option, Some, None, is_none, is_some, All, position, refl, sym, ap, ◌∙◌, subst, inl, inr, arith, take_all, drop-cons, le_trans, sub-one, ap₂, count_by, option_and_then, nat_eq, OnSome, append_assoc}
+use Rattle.std.proofs.Math.Bool.{and-true}
 use Rattle.std.proofs.Math.Dec.{eqb-suc-zero}
 use Rattle.std.specs.Option.{option_or}
 use Rattle.std.specs.List.{list_all, onto_first, position_or_len, before_first}
@@ -101,6 +102,7 @@ either_of_text : (o p : Option PathRefusal) → option_and_then of_text o ≡ o 
 either_of_text None p h k = k
 either_of_text (Some x) p h k = h
 
+-- where no refusal at an offset speaks of memory, the first refusal of several offsets doesn't either
 pub answers_of_text : (f : ℕ → Option PathRefusal) → ((k : ℕ) → option_and_then of_text (f k) ≡ f k) → (n : ℕ) → option_and_then of_text (first_answer f n) ≡ first_answer f n
 answers_of_text f each zero = refl
 answers_of_text f each (suc n) = either_of_text (first_answer f n) (f n) (answers_of_text f each n) (each n)
@@ -118,8 +120,9 @@ refusal_of_text text = chosen (nat_eq (length text) 0) (ltb 1024 (length text)) 
     chosen false true m f h = refl
     chosen false false m f h = either_of_text f _ h (long m)
 
-pub refused_is : (text : List ℕ) (refusal : PathRefusal) → refusal_of text ≡ Some refusal → of_text refusal ≡ Some refusal
-refused_is text refusal h = subst (λ (o : Option PathRefusal). option_and_then of_text o ≡ o) h (refusal_of_text text)
+-- a refusal of a path speaks of the text, never of memory
+pub path_refusal_is_of_text : (text : List ℕ) (refusal : PathRefusal) → refusal_of text ≡ Some refusal → of_text refusal ≡ Some refusal
+path_refusal_is_of_text text refusal h = subst (λ (o : Option PathRefusal). option_and_then of_text o ≡ o) h (refusal_of_text text)
 
 -- whether no offset of a text has a fault, by recursion; `begins` says whether a name is to begin in front
 abbrev sound : Bool → ℕ → List ℕ → Bool
@@ -164,12 +167,8 @@ first_fault_is text =
     sym (and_end (is_none (first_fault text)) (begins_at text (length text)) (drop (length text) text) (drop_all (length text) text (omega arith)))
     ∙ so_far text (length text) (omega arith)
   where
-    and_true : (b : Bool) → (b && true) ≡ b
-    and_true true = refl
-    and_true false = refl
-
     and_end : (a g : Bool) (rest : List ℕ) → rest ≡ [] → (a && clean g rest) ≡ a
-    and_end a g rest h = ap (λ (l : List ℕ). a && clean g l) h ∙ and_true a
+    and_end a g rest h = ap (λ (l : List ℕ). a && clean g l) h ∙ and-true a
 
 -- the pieces behind the first
 abbrev later : List (List ℕ) → List (List ℕ)
@@ -218,6 +217,7 @@ slash_bools e a c h k = ap₂ (λ (x y : Bool). (not x && true) && y) h k ∙ ap
 four : (a b c d x y z w : Bool) → a ≡ x → b ≡ y → c ≡ z → d ≡ w → (a && ((b && c) && d)) ≡ (x && ((y && z) && w))
 four a b c d x y z w h k m n = ap₂ (λ (p q : Bool). p && q) h (ap₂ (λ (p q : Bool). p && q) (ap₂ (λ (p q : Bool). p && q) k m) n)
 
+-- a number is at most another one exactly where it is not above it
 pub not_above : (most n : ℕ) → leb n most ≡ not (ltb most n)
 not_above most n = grind (arith, nat_tests)
 
@@ -288,21 +288,27 @@ pub names_of_path : (names : List (List ℕ)) → is_path names ≡ true → lis
 names_of_path names h =
     (and_parts (leb (length names) 64 && leb (length (joined names)) 1024) (list_all is_name names) (and_parts (leb 1 (length names)) (is_rel names) h).1).1
 
-pub is_spelled : (text : List ℕ) → refusal_of text ≡ None → is_path (pieces text) ≡ true
-is_spelled text h = path_is text ∙ ap is_none h
+-- the pieces of a text that nothing refuses are a path
+pub pieces_are_path : (text : List ℕ) → refusal_of text ≡ None → is_path (pieces text) ≡ true
+pieces_are_path text h = path_is text ∙ ap is_none h
 
-pub spelled : (text : List ℕ) (names : List (List ℕ)) → names ≡ pieces text → refusal_of text ≡ None → path_of text ≡ Some names
-spelled text names h k = ap (λ (t : Bool). if t then Some (pieces text) else None) (is_spelled text k) ∙ ap Some (sym h)
+-- a text that nothing refuses is read as its pieces
+pub read_as_pieces : (text : List ℕ) (names : List (List ℕ)) → names ≡ pieces text → refusal_of text ≡ None → path_of text ≡ Some names
+read_as_pieces text names h k = ap (λ (t : Bool). if t then Some (pieces text) else None) (pieces_are_path text k) ∙ ap Some (sym h)
 
-pub path_names : (text : List ℕ) (names : List (List ℕ)) → names ≡ pieces text → refusal_of text ≡ None → is_path names ≡ true
-path_names text names h k = subst (λ (l : List (List ℕ)). is_path l ≡ true) (sym h) (is_spelled text k)
+-- names that are the pieces of a text that nothing refuses are a path
+pub names_are_path : (text : List ℕ) (names : List (List ℕ)) → names ≡ pieces text → refusal_of text ≡ None → is_path names ≡ true
+names_are_path text names h k = subst (λ (l : List (List ℕ)). is_path l ≡ true) (sym h) (pieces_are_path text k)
 
-pub names_all : (text : List ℕ) → refusal_of text ≡ None → list_all is_name (pieces text) ≡ true
-names_all text k = names_of_path (pieces text) (is_spelled text k)
+-- each piece of a text that nothing refuses is a name
+pub pieces_are_names : (text : List ℕ) → refusal_of text ≡ None → list_all is_name (pieces text) ≡ true
+pieces_are_names text k = names_of_path (pieces text) (pieces_are_path text k)
 
+-- a text that something refuses is read as no path
 pub no_path : (text : List ℕ) (refusal : PathRefusal) → refusal_of text ≡ Some refusal → path_of text ≡ None
 no_path text refusal h = ap (λ (t : Bool). if t then Some (pieces text) else None) (path_is text ∙ ap is_none h)
 
+-- what is true anyway is true where there is an answer
 pub on_some : {X : Type 0} (o : Option X) (P : Type 0) → P → OnSome o P
 on_some None P p = tt
 on_some (Some x) P p = p
@@ -341,6 +347,7 @@ joined_push first [] name = refl
 joined_push first (next ∷ names) name =
     ap (λ (l : List ℕ). first ++ (47 ∷ l)) (joined_push next names name) ∙ sym (append_assoc first (47 ∷ joined (next ∷ names)) (47 ∷ name))
 
+-- the text of one name more is the text so far, a slash and that name
 pub joined_more : (first : List ℕ) (names : List (List ℕ)) (i : ℕ) (d : List ℕ) → i < length names → joined (first ∷ take (i + 1) names) ≡ joined (first ∷ take i names) ++ 47 ∷ get_or names i d
 joined_more first names i d h = ap (λ (l : List (List ℕ)). joined (first ∷ l)) (take_more names i d h) ∙ joined_push first (take i names) (get_or names i d)
 

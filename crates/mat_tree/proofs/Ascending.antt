@@ -1,5 +1,5 @@
 -- Lists of nodes that ascend.
-use Rattle.mat_path.proofs.PathLemmas.{path_cmp_total}
+use Rattle.mat_path.proofs.PathLemmas.{lt_less, path_cmp_total}
 use Rattle.std.proofs.lemmas.Bool.{and_from}
 use Rattle.std.specs.Cmp.{first_so, second_so}
 use Rattle.std.proofs.Common.{◌≡◌, ℕ, true, ◌&&◌, List, [], ◌∷◌, ◌++◌, map, refl, ◌∙◌, ap}
@@ -10,15 +10,7 @@ use Rattle.mat_tree.specs.Nodes.{put_in}
 use Rattle.mat_tree.specs.Trees.{is_after, ascends}
 use Rattle.mat_tree.proofs.Paths.{path_cmp_in}
 use Rattle.mat_path.specs.Names.{path_cmp}
-use Rattle.std.specs.declared.cmp.Ordering.{Ordering}
-use Rattle.std.specs.declared.cmp.Ordering.TheVariants.{Less, Equal, Greater}
 use Rattle.mat_tree.proofs.Joins.{all_left, all_right}
-
--- what is less is the order Less
-pub lt_less : (o : Ordering) → is_lt o ≡ true → o ≡ Less
-lt_less Less e = refl
-lt_less Equal e = cc
-lt_less Greater e = cc
 
 -- a rel that is less than one which is less than another is less than that one
 pub lt_trans_path : (p q r : List (List ℕ)) → is_lt (path_cmp p q) ≡ true → is_lt (path_cmp q r) ≡ true → is_lt (path_cmp p r) ≡ true

@@ -16,11 +16,11 @@ use Rattle.mat_tree.specs.declared.node.Children.{Children, out-Children}
 use Rattle.mat_tree.specs.Nodes.{at_root, put_in, node_step, child_step, children_step, layer_what, what_node, below_node, below_child, below_children, below_all, is_named}
 use Rattle.mat_tree.specs.Sums.{is_child}
 use Rattle.mat_tree.specs.Trees.{is_after, ascends, sub_tree}
-use Rattle.mat_tree.proofs.Ascending.{after_first, ascends_right}
+use Rattle.mat_tree.proofs.Ascending.{ascends_right}
 use Rattle.mat_tree.proofs.Folds.{below_child_out, below_children_out}
 use Rattle.mat_tree.proofs.Joins.{all_left, all_right}
-use Rattle.mat_tree.proofs.Paths.{apart}
-use Rattle.mat_tree.proofs.Subtrees.{child_begins, found_sub, sub_tree_children, sub_tree_root}
+use Rattle.mat_tree.proofs.Paths.{lesser_name_differs}
+use Rattle.mat_tree.proofs.Subtrees.{after_child, child_begins, found_sub, sub_tree_children, sub_tree_root}
 
 -- ---- a node's list is the node, and the lists of its children
 
@@ -30,6 +30,7 @@ layer_children (layer.File digest exec) = []
 layer_children (layer.Dir children) = (out-Children children).list
 layer_children (layer.Link target) = []
 
+-- the children of a node
 abbrev pub children_node : Node → List Child
 children_node n = layer_children (out-Node n)
 
@@ -40,8 +41,9 @@ shape_layer (layer.File digest exec) = refl
 shape_layer (layer.Dir children) = ap (λ (t : List Flat). node_step (layer.Dir t)) (below_children_out children)
 shape_layer (layer.Link target) = refl
 
-pub shape : (n : Node) → below_node n ≡ at_root (what_node n) ∷ below_all (children_node n)
-shape n = fold_out-Node (List Flat) (List Flat) (List Flat) node_step child_step children_step n ∙ shape_layer (out-Node n)
+-- a node's list is the node at its root, and then the lists of its children
+pub node_then_children : (n : Node) → below_node n ≡ at_root (what_node n) ∷ below_all (children_node n)
+node_then_children n = fold_out-Node (List Flat) (List Flat) (List Flat) node_step child_step children_step n ∙ shape_layer (out-Node n)
 
 -- ---- the children in a list
 
@@ -65,9 +67,10 @@ deep_all a (c ∷ cs) =
 
 child_is : (c : Child) → filter is_child (below_child c) ≡ as_flat c ∷ []
 child_is c =
-    ap (filter is_child) (below_child_out c ∙ ap (map (put_in (out-Child c).name)) (shape (out-Child c).node))
+    ap (filter is_child) (below_child_out c ∙ ap (map (put_in (out-Child c).name)) (node_then_children (out-Child c).node))
     ∙ ap (λ t. as_flat c ∷ t) (deep_all (out-Child c).name (children_node (out-Child c).node))
 
+-- the nodes of one name in the lists of some children are the children
 pub children_are : (cs : List Child) → filter is_child (below_all cs) ≡ map as_flat cs
 children_are [] = refl
 children_are (c ∷ cs) =
@@ -87,24 +90,19 @@ found_more c cs [] e f = tt
 found_more c cs (x ∷ xs) e f =
     let first = ap (list_all (is_after ((out-Child c).name ∷ []))) (sym (child_begins x))
     ∙ all_left (is_after ((out-Child c).name ∷ [])) (below_child x) (below_all xs) e in
-    let other = apart (out-Child c).name (out-Child x).name
+    let other = lesser_name_differs (out-Child c).name (out-Child x).name
     (first_so (is_after ((out-Child c).name ∷ []) (as_flat x))
     (list_all (is_after ((out-Child c).name ∷ [])) (map (put_in (out-Child x).name) (drop 1 (below_node (out-Child x).node)))) first) in (
       ap (λ b. cond b (Some c) (find (is_named (out-Child x).name) cs)) (same_name-sym (out-Child x).name (out-Child c).name ∙ other) ∙ f.0,
       found_more c cs xs (all_right (is_after ((out-Child c).name ∷ [])) (below_child x) (below_all xs) e) f.1,
     )
 
--- the children behind a child come after its name
-after_child : (c : Child) (cs : List Child) → ascends (below_all (c ∷ cs)) ≡ true → list_all (is_after ((out-Child c).name ∷ [])) (below_all cs) ≡ true
-after_child c cs e =
-    after_first (as_flat c) (map (put_in (out-Child c).name) (drop 1 (below_node (out-Child c).node))) (below_all cs)
-    (ap (λ t. ascends (t ++ below_all cs)) (sym (child_begins c)) ∙ e)
-
-pub founds : (cs : List Child) → ascends (below_all cs) ≡ true → IsFound cs cs
-founds [] e = tt
-founds (c ∷ cs) e = (
+-- in lists that ascend each child is found by its name
+pub each_is_found : (cs : List Child) → ascends (below_all cs) ≡ true → IsFound cs cs
+each_is_found [] e = tt
+each_is_found (c ∷ cs) e = (
   ap (λ b. cond b (Some c) (find (is_named (out-Child c).name) cs)) (same_name-refl (out-Child c).name),
-  found_more c cs cs (after_child c cs e) (founds cs (ascends_right (below_child c) (below_all cs) e)),
+  found_more c cs cs (after_child c cs e) (each_is_found cs (ascends_right (below_child c) (below_all cs) e)),
 )
 
 -- below the name of a child that is found stands its own list

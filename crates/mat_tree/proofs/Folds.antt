@@ -18,32 +18,40 @@ joined_is : (f : Child → List Flat) (cs : List Child) → flat_map itself (map
 joined_is f [] = refl
 joined_is f (c ∷ cs) = ap (λ t. f c ++ t) (joined_is f cs)
 
+-- the list of children is that of the vector that they are in
 pub below_children_out : (cs : Children) → below_children cs ≡ below_all (out-Children cs).list
 below_children_out cs = fold_out-Children (List Flat) (List Flat) (List Flat) node_step child_step children_step cs ∙ joined_is below_child (out-Children cs).list
 
+-- a child's list is its node's, each rel behind the child's name
 pub below_child_out : (c : Child) → below_child c ≡ map (put_in (out-Child c).name) (below_node (out-Child c).node)
 below_child_out c = fold_out-Child (List Flat) (List Flat) (List Flat) node_step child_step children_step c
 
+-- a directory's list is the directory at the root, and then its children's
 pub below_dir : (cs : Children) → below_node (variant.Dir cs) ≡ at_root what.Dir ∷ below_children cs
 unfolding out-Node denote.Hole.Carrier.out
 below_dir cs = fold_out-Node (List Flat) (List Flat) (List Flat) node_step child_step children_step (variant.Dir cs)
 
+-- a file's list is the file at the root alone
 pub below_file : (digest : Digest) (exec : Bool) → below_node (variant.File digest exec) ≡ at_root (what.File digest exec) ∷ []
 unfolding out-Node denote.Hole.Carrier.out
 below_file digest exec = fold_out-Node (List Flat) (List Flat) (List Flat) node_step child_step children_step (variant.File digest exec)
 
+-- a link's list is the link at the root alone
 pub below_link : (target : List ℕ) → below_node (variant.Link target) ≡ at_root (what.Link target) ∷ []
 unfolding out-Node denote.Hole.Carrier.out
 below_link target = fold_out-Node (List Flat) (List Flat) (List Flat) node_step child_step children_step (variant.Link target)
 
+-- a directory is told as a directory
 pub what_dir : (n : Node) (cs : Children) → n ≡ variant.Dir cs → what_node n ≡ what.Dir
 unfolding out-Node denote.Hole.Carrier.out
 what_dir n cs e = ap what_node e
 
+-- a file is told as one of its digest and executable bit
 pub what_file : (n : Node) (digest : Digest) (exec : Bool) → n ≡ variant.File digest exec → what_node n ≡ what.File digest exec
 unfolding out-Node denote.Hole.Carrier.out
 what_file n digest exec e = ap what_node e
 
+-- a link is told as one to its target
 pub what_link : (n : Node) (target : List ℕ) → n ≡ variant.Link target → what_node n ≡ what.Link target
 unfolding out-Node denote.Hole.Carrier.out
 what_link n target e = ap what_node e
@@ -54,6 +62,7 @@ pub below_dir_out : (n : Node) (cs : Children) (list : List Child) → n ≡ var
 below_dir_out n cs list e f =
     ap below_node e ∙ below_dir cs ∙ ap (λ t. at_root what.Dir ∷ t) (below_children_out cs) ∙ ap (λ t. at_root what.Dir ∷ below_all t) (sym f)
 
+-- one more child adds its list behind the others'
 pub below_all_push : (cs : List Child) (c : Child) → below_all (cs ++ (c ∷ [])) ≡ below_all cs ++ below_child c
 below_all_push cs c = flat_map-append below_child cs (c ∷ []) ∙ ap (λ t. below_all cs ++ t) (append-nil (below_child c))
 
@@ -103,9 +112,11 @@ copied_more cs copies pushed i c new h e so n b p =
     ap below_all p ∙ below_all_push copies new ∙ ap (λ t. t ++ below_child new) so ∙ ap (λ t. below_all (take i cs) ++ t) (same_child new c n b)
     ∙ sym (below_all_step cs i c h e)
 
+-- a child has as many nodes in its list as its node has
 pub child_length : (c : Child) → length (below_child c) ≡ length (below_node (out-Child c).node)
 child_length c = ap length (below_child_out c) ∙ length-map (below_node (out-Child c).node) (put_in (out-Child c).name)
 
+-- each of some children has no more nodes than all
 pub child_within : (cs : List Child) (i : ℕ) (c : Child) → i < length cs → c ≡ get_or cs i c → length (below_child c) ≤ length (below_all cs)
 child_within cs i c h e = omega (arith, child_length c, below_all_count cs i c h e, below_all_part cs (i + 1))
 

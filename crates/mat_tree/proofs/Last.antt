@@ -16,7 +16,8 @@ use Rattle.mat_tree.specs.declared.node.Children.{Children, out-Children}
 use Rattle.mat_tree.specs.Nodes.{at_root, put_in, below_node, below_child, below_all, what_node}
 use Rattle.mat_tree.specs.Trees.{is_dir, is_root, parent_of, follows, follows_all, is_linked}
 use Rattle.mat_tree.proofs.Folds.{below_all_push, below_child_out, below_dir_out}
-use Rattle.mat_tree.proofs.Subtrees.{begins}
+use Rattle.mat_tree.proofs.Joins.{lt_suc}
+use Rattle.mat_tree.proofs.Subtrees.{node_begins}
 
 -- ---- where a node follows
 
@@ -29,13 +30,11 @@ pub leaf_follows : (names : List (List ℕ)) (w : What) → is_dir w ≡ false �
 leaf_follows names w e =
     ap (λ d. is_prefix (parent_of names) [] && (d || nat_lt (length (parent_of names)) 0)) e ∙ no_room (is_prefix (parent_of names) []) (length (parent_of names))
 
+-- whether a rel follows the last node of a list has to do with the end of the list alone
 pub follows_all-append : (rel : List (List ℕ)) (xs : List Flat) (y : Flat) (ys : List Flat) → follows_all rel (xs ++ (y ∷ ys)) ≡ follows_all rel (y ∷ ys)
 follows_all-append rel [] y ys = refl
 follows_all-append rel (x ∷ []) y ys = refl
 follows_all-append rel (x ∷ next ∷ xs) y ys = follows_all-append rel (next ∷ xs) y ys
-
-lt_suc : (m n : ℕ) → nat_lt (suc m) (suc n) ≡ nat_lt m n
-lt_suc m n = grind (arith, nat_tests)
 
 follows_in : (a b : List ℕ) (more : List (List ℕ)) (n : List ℕ) (x : Flat) → follows (a ∷ b ∷ more) (put_in n x) ≡ (same_name a n && follows (b ∷ more) x)
 follows_in a b more n x =
@@ -59,8 +58,8 @@ follows_child names a b more list rest c e f told =
     let name = (out-Child c).name in
     let is : at_root what.Dir ∷ below_all list ≡ (at_root what.Dir ∷ below_all rest) ++ map (put_in name) (first ∷ behind)
     = ap (λ l. at_root what.Dir ∷ below_all l) f ∙ ap (λ t. at_root what.Dir ∷ t) (below_all_push rest c)
-    ∙ ap (λ t. at_root what.Dir ∷ (below_all rest ++ t)) (below_child_out c ∙ ap (map (put_in name)) (begins (out-Child c).node)) in
-    ap (λ t. same_name a name && follows_all (b ∷ more) t) (begins (out-Child c).node)
+    ∙ ap (λ t. at_root what.Dir ∷ (below_all rest ++ t)) (below_child_out c ∙ ap (map (put_in name)) (node_begins (out-Child c).node)) in
+    ap (λ t. same_name a name && follows_all (b ∷ more) t) (node_begins (out-Child c).node)
     ∙ sym (follows_all_in a b more name first behind)
     ∙ sym (follows_all-append (a ∷ b ∷ more) (at_root what.Dir ∷ below_all rest) (put_in name first) (map (put_in name) behind))
     ∙ ap (follows_all (a ∷ b ∷ more)) (sym is) ∙ ap (λ n. follows_all n (at_root what.Dir ∷ below_all list)) (sym e) ∙ told
@@ -70,6 +69,7 @@ pub follows_no_child : (names : List (List ℕ)) (a b : List ℕ) (more : List (
     → names ≡ a ∷ b ∷ more → list ≡ [] → follows_all names (at_root what.Dir ∷ below_all list) ≡ false
 follows_no_child names a b more list e f = ap (λ n. follows_all n (at_root what.Dir ∷ below_all list)) e ∙ ap (λ l. follows_all (a ∷ b ∷ more) (at_root what.Dir ∷ below_all l)) f
 
+-- a leaf at one name, pushed as a child, adds one node to the list
 pub grown_child : (names : List (List ℕ)) (name : List ℕ) (w : What) (list pushed : List Child) (new : Child)
     → names ≡ name ∷ [] → (out-Child new).name ≡ name → below_node (out-Child new).node ≡ at_root w ∷ [] → pushed ≡ list ++ (new ∷ [])
     → below_all pushed ≡ below_all list ++ (record { rel = names; what = w } ∷ [])
@@ -78,6 +78,7 @@ grown_child names name w list pushed new e n b p =
     ∙ ap (λ t. below_all list ++ map (put_in (out-Child new).name) t) b
     ∙ ap (λ r. below_all list ++ (record { rel = r; what = w } ∷ [])) (ap (λ m. m ∷ []) n ∙ sym e)
 
+-- where the last child gets one more node, the list gets that node behind its name
 pub grown_grandchild : (names : List (List ℕ)) (a b : List ℕ) (more : List (List ℕ)) (w : What) (list rest pushed : List Child) (c new : Child)
     → names ≡ a ∷ b ∷ more → list ≡ rest ++ (c ∷ []) → pushed ≡ rest ++ (new ∷ []) → same_name a (out-Child c).name ≡ true
     → (out-Child new).name ≡ (out-Child c).name
@@ -111,6 +112,7 @@ below_root x e = by x.rel e
     by [] f = cc
     by (a ∷ rel) f = omega arith
 
+-- each node behind the first of a linked list stands below the root
 pub linked_below : (before : Flat) (rest : List Flat) (i : ℕ) (x : Flat) → is_linked before rest ≡ true → i < length rest → x ≡ get_or rest i x → 1 ≤ length x.rel
 linked_below before [] i x e h is = absurd (omega arith)
 linked_below before (y ∷ ys) zero x e h is =
@@ -119,6 +121,7 @@ linked_below before (y ∷ ys) zero x e h is =
 linked_below before (y ∷ ys) (suc i) x e h is =
     linked_below y ys i x (second_so (not (is_root y) && follows y.rel before) (is_linked y ys) e) (omega arith) is
 
+-- each node behind the first of a linked list follows those before it
 pub linked_at : (before : Flat) (rest : List Flat) (i : ℕ) (x : Flat) → is_linked before rest ≡ true → i < length rest → x ≡ get_or rest i x
     → follows_all x.rel (before ∷ take i rest) ≡ true
 linked_at before [] i x e h is = absurd (omega arith)
@@ -129,16 +132,19 @@ linked_at before (y ∷ ys) (suc i) x e h is =
 
 -- ---- names from their first two
 
+-- two names or more are the first, the second and the others
 pub two_names : (names : List (List ℕ)) → 2 ≤ length names → names ≡ get_or names 0 [] ∷ get_or names 1 [] ∷ drop 2 names
 two_names [] h = absurd (omega arith)
 two_names (a ∷ []) h = absurd (omega arith)
 two_names (a ∷ b ∷ names) h = refl
 
+-- fewer than two names and at least one are the first one alone
 pub one_name : (names : List (List ℕ)) (name : List ℕ) → length names < 2 → 1 ≤ length names → name ≡ get_or names 0 name → names ≡ name ∷ []
 one_name [] name h k e = absurd (omega arith)
 one_name (a ∷ []) name h k e = ap (λ x. x ∷ []) (sym e)
 one_name (a ∷ b ∷ names) name h k e = absurd (omega arith)
 
+-- two names or more without the first are the second and the others
 pub more_names : (names : List (List ℕ)) → 2 ≤ length names → take (length names - 1) (drop 1 names) ≡ get_or names 1 [] ∷ drop 2 names
 more_names [] h = absurd (omega arith)
 more_names (a ∷ []) h = absurd (omega arith)
@@ -153,6 +159,7 @@ follows_more names list rest c h f told =
     ∙ second_so (same_name (get_or names 0 []) (out-Child c).name) (follows_all (get_or names 1 [] ∷ drop 2 names) (below_node (out-Child c).node))
     (follows_child names (get_or names 0 []) (get_or names 1 []) (drop 2 names) list rest c (two_names names h) f told)
 
+-- the same, with the names cut as they are when it is called
 pub grown_more : (names : List (List ℕ)) (w : What) (list rest pushed : List Child) (c new : Child) → 2 ≤ length names
     → list ≡ rest ++ (c ∷ []) → follows_all names (at_root what.Dir ∷ below_all list) ≡ true → pushed ≡ rest ++ (new ∷ [])
     → (out-Child new).name ≡ (out-Child c).name

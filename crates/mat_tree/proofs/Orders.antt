@@ -33,6 +33,7 @@ pub below_order : (c : Child) (cs : Children) (list : List Child) → (out-Child
     → ascends (below_child c) ≡ true → ascends (below_all list) ≡ true
 below_order c cs list e f up = dir_order (out-Child c).node cs list e f (child_order c up)
 
+-- the children of a child that is a directory have fewer nodes than the child
 pub below_fewer : (c : Child) (cs : Children) (list : List Child) → (out-Child c).node ≡ variant.Dir cs → list ≡ (out-Children cs).list
     → length (below_all list) < length (below_child c)
 below_fewer c cs list e f = omega (arith, child_length c, ap length (below_dir_out (out-Child c).node cs list e f))

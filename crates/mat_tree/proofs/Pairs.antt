@@ -19,7 +19,7 @@ use Rattle.mat_tree.specs.declared.node.Children.{Children, out-Children}
 use Rattle.mat_tree.specs.Nodes.{at_root, put_in, node_step, child_step, children_step, below_node, below_child, below_children, below_all, what_node}
 use Rattle.mat_tree.specs.Trees.{is_root, same_what, same_flat, same_tree}
 use Rattle.mat_tree.proofs.Folds.{below_children_out, below_child_out, below_dir_out}
-use Rattle.mat_tree.proofs.Subtrees.{begins, child_begins}
+use Rattle.mat_tree.proofs.Subtrees.{node_begins, child_begins}
 use Rattle.mat_tree.proofs.Joins.{all_join}
 
 -- ---- below one name
@@ -32,6 +32,7 @@ same_in_one n m (x ∷ xs) (y ∷ ys) e =
     ap (λ b. ((b && same_names x.rel y.rel) && same_what x.what y.what) && same_tree (map (put_in n) xs) (map (put_in m) ys)) e
     ∙ ap (λ t. same_flat x y && t) (same_in_one n m xs ys e)
 
+-- two lists behind a name each are the same exactly where the names are and the lists are
 pub same_in : (n m : List ℕ) (x y : Flat) (xs ys : List Flat)
     → same_tree (map (put_in n) (x ∷ xs)) (map (put_in m) (y ∷ ys)) ≡ (same_name n m && same_tree (x ∷ xs) (y ∷ ys))
 same_in n m x y xs ys = by (same_name n m) refl
@@ -40,6 +41,7 @@ same_in n m x y xs ys = by (same_name n m) refl
     by true e = same_in_one n m (x ∷ xs) (y ∷ ys) e
     by false e = ap (λ b. ((b && same_names x.rel y.rel) && same_what x.what y.what) && same_tree (map (put_in n) xs) (map (put_in m) ys)) e
 
+-- two children are the same exactly where their names are and their nodes are
 pub same_children_of : (c d : Child) → same_tree (below_child c) (below_child d)
     ≡ (same_name (out-Child c).name (out-Child d).name && same_tree (below_node (out-Child c).node) (below_node (out-Child d).node))
 same_children_of c d =
@@ -48,9 +50,10 @@ same_children_of c d =
     ap (λ t. same_tree t (below_child d)) (child_begins c)
     ∙ ap (λ t. same_tree (map (put_in (out-Child c).name) (x ∷ drop 1 (below_node (out-Child c).node))) t) (child_begins d)
     ∙ same_in (out-Child c).name (out-Child d).name x y (drop 1 (below_node (out-Child c).node)) (drop 1 (below_node (out-Child d).node))
-    ∙ ap (λ t. same_name (out-Child c).name (out-Child d).name && same_tree t (y ∷ drop 1 (below_node (out-Child d).node))) (sym (begins (out-Child c).node))
-    ∙ ap (λ t. same_name (out-Child c).name (out-Child d).name && same_tree (below_node (out-Child c).node) t) (sym (begins (out-Child d).node))
+    ∙ ap (λ t. same_name (out-Child c).name (out-Child d).name && same_tree t (y ∷ drop 1 (below_node (out-Child d).node))) (sym (node_begins (out-Child c).node))
+    ∙ ap (λ t. same_name (out-Child c).name (out-Child d).name && same_tree (below_node (out-Child c).node) t) (sym (node_begins (out-Child d).node))
 
+-- two directories are the same exactly where their children are
 pub same_dirs : (n m : Node) (cs ds : Children) (list others : List Child) → n ≡ variant.Dir cs → list ≡ (out-Children cs).list
     → m ≡ variant.Dir ds → others ≡ (out-Children ds).list → same_tree (below_node n) (below_node m) ≡ same_tree (below_all list) (below_all others)
 same_dirs n m cs ds list others e f g h =
@@ -123,6 +126,7 @@ inner_layer (layer.File digest exec) = refl
 inner_layer (layer.Dir cs) = ap (list_all is_inner) (below_children_out cs) ∙ inner_all (out-Children cs).list
 inner_layer (layer.Link target) = refl
 
+-- all of a node's list behind its first is below the root
 pub inner_behind : (n : Node) → list_all is_inner (drop 1 (below_node n)) ≡ true
 inner_behind n =
     ap (λ t. list_all is_inner (drop 1 t)) (fold_out-Node (List Flat) (List Flat) (List Flat) node_step child_step children_step n) ∙ inner_layer (out-Node n)
@@ -143,6 +147,7 @@ starts_all (c ∷ cs) = ap (λ t. starts_right_below (t ++ below_all cs)) (child
 
 -- ---- children, pair by pair
 
+-- whether two children are the same
 abbrev pub same_pair : Child → Child → Bool
 same_pair c d = same_tree (below_child c) (below_child d)
 
@@ -161,12 +166,14 @@ same_chunks c d cs ds =
     ∙ ap (λ t. same_tree t (y ∷ ys) && same_tree (below_all cs) (below_all ds)) (sym (child_begins c))
     ∙ ap (λ t. same_tree (below_child c) t && same_tree (below_all cs) (below_all ds)) (sym (child_begins d))
 
+-- lists of children are the same exactly where they are so pair by pair
 pub same_all : (cs ds : List Child) → same_tree (below_all cs) (below_all ds) ≡ pointwise same_pair cs ds
 same_all [] [] = refl
 same_all [] (d ∷ ds) = ap (λ t. same_tree [] (t ++ below_all ds)) (child_begins d)
 same_all (c ∷ cs) [] = ap (λ t. same_tree (t ++ below_all cs) []) (child_begins c)
 same_all (c ∷ cs) (d ∷ ds) = same_chunks c d cs ds ∙ ap (λ t. same_pair c d && t) (same_all cs ds)
 
+-- from a place on children are the same exactly where the pair there is and those behind it are
 pub same_more : (cs ds : List Child) (k : ℕ) (x y : Child) → k < length cs → k < length ds → x ≡ get_or cs k x → y ≡ get_or ds k y
     → pointwise same_pair (drop k cs) (drop k ds) ≡ (same_pair x y && pointwise same_pair (drop (k + 1) cs) (drop (k + 1) ds))
 same_more cs ds k x y h i e f =

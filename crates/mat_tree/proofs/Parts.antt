@@ -1,10 +1,11 @@
 -- What is at and below a rel of a tree is a tree.
 use Rattle.mat_path.proofs.SameNames.{same_name-eq, same_names-eq, same_names-refl}
-use Rattle.std.proofs.lemmas.Bool.{and_from}
+use Rattle.mat_path.proofs.Bools.{or_second}
+use Rattle.mat_path.proofs.JoinLemmas.{joined-tail}
+use Rattle.std.proofs.lemmas.Bool.{and_from, or_left, or_right}
 use Rattle.std.specs.Cmp.{first_so, second_so}
 use Rattle.std.proofs.Common.{◌≡◌, ◌≤◌, ℕ, suc, Bool, true, false, cond, ◌&&◌, ◌||◌, not, nat_le, if◌then◌else◌, List, [], ◌∷◌, map, length, drop, refl, ◌∙◌, sym, ap, subst, arith}
 use Rattle.std.proofs.lemmas.Bool.Decides.{nat_tests}
-use Rattle.std.proofs.lemmas.List.{length-append}
 use Rattle.std.specs.List.{list_all, list_any, filter}
 use Rattle.std.specs.Option.{option_map}
 use Rattle.std.specs.declared.option.Option.{Option}
@@ -17,7 +18,7 @@ use Rattle.mat_tree.specs.declared.node.Node.{Node}
 use Rattle.mat_tree.specs.Nodes.{below_node, what_node}
 use Rattle.mat_tree.specs.Trees.{is_at, is_root, is_rooted, is_after, is_dir, is_dir_at, is_link, is_small, has_rel, ascends, parent_of, has_parent, is_below, seen_from, sub_tree, sub_at, is_standing, kind_of, what_at, IsTree}
 use Rattle.mat_tree.proofs.Paths.{path_cmp_in}
-use Rattle.mat_tree.proofs.Subtrees.{begins, what_at_sub}
+use Rattle.mat_tree.proofs.Subtrees.{node_begins, what_at_sub}
 
 -- ---- each node of a part
 
@@ -85,14 +86,6 @@ any_sub rel p [] e f = cc
 any_sub rel p (x ∷ xs) e f =
     by (is_dir_at p x) refl (is_below rel x) refl f (λ g. any_sub rel p xs e g)
   where
-    or_left : (a b : Bool) → a ≡ true → (a || b) ≡ true
-    or_left true b e = refl
-    or_left false b e = cc
-
-    or_right : (a b : Bool) → b ≡ true → (a || b) ≡ true
-    or_right true b e = refl
-    or_right false b e = e
-
     by : (d : Bool) → is_dir_at p x ≡ d → (b : Bool) → is_below rel x ≡ b → (d || list_any (is_dir_at p) xs) ≡ true
         → (list_any (is_dir_at p) xs ≡ true → list_any (is_dir_at (drop (length rel) p)) (sub_tree xs rel) ≡ true)
         → list_any (is_dir_at (drop (length rel) p)) (map (seen_from rel) (cond b (x ∷ filter (is_below rel) xs) (filter (is_below rel) xs))) ≡ true
@@ -117,10 +110,6 @@ root_drop rel (b ∷ x) e = cc
 sub_parent : (rel : List (List ℕ)) (nodes : List Flat) (x : Flat) → has_parent nodes x ≡ true → is_below rel x ≡ true → has_parent (sub_tree nodes rel) (seen_from rel x) ≡ true
 sub_parent rel nodes x e f = by (is_root (seen_from rel x)) refl
   where
-    or_of : (a b : Bool) → a ≡ false → (a || b) ≡ true → b ≡ true
-    or_of true b g h = cc
-    or_of false b g h = h
-
     not_root : (b : Bool) → is_root x ≡ b → is_root (seen_from rel x) ≡ false → b ≡ false
     not_root true g h = let clash : true ≡ false = ap (λ r. same_names [] r) (sym (root_drop rel x.rel g)) ∙ h in cc
     not_root false g h = refl
@@ -132,16 +121,13 @@ sub_parent rel nodes x e f = by (is_root (seen_from rel x)) refl
         let told = parent_drop rel x.rel f g in
         ap (λ p. list_any (is_dir_at p) (sub_tree nodes rel)) (sym told.1)
         ∙ any_sub rel (parent_of x.rel) nodes told.0
-        (or_of (is_root x) (list_any (is_dir_at (parent_of x.rel)) nodes) (not_root (is_root x) refl g) e)
+        (or_second (is_root x) (list_any (is_dir_at (parent_of x.rel)) nodes) (not_root (is_root x) refl g) e)
 
 -- ---- rels
 
-joined_tail : (a : List ℕ) (rel : List (List ℕ)) → length (joined rel) ≤ length (joined (a ∷ rel))
-joined_tail a [] = omega arith
-joined_tail a (b ∷ rel) = omega (arith, length-append a (47 ∷ joined (b ∷ rel)))
-
-pub le_of : (m n : ℕ) → nat_le m n ≡ true → m ≤ n
-le_of m n e = grind (arith, nat_tests)
+-- a number is at most another one where the test says so
+pub le_from_test : (m n : ℕ) → nat_le m n ≡ true → m ≤ n
+le_from_test m n e = grind (arith, nat_tests)
 
 of_le : (m n : ℕ) → m ≤ n → nat_le m n ≡ true
 of_le m n e = grind (arith, nat_tests)
@@ -150,9 +136,9 @@ rel_tail : (a : List ℕ) (rel : List (List ℕ)) → is_rel (a ∷ rel) ≡ tru
 rel_tail a rel e =
     let two = first_so (nat_le (length (a ∷ rel)) 64 && nat_le (length (joined (a ∷ rel))) 1024) (list_all is_name (a ∷ rel)) e in
     let names = second_so (nat_le (length (a ∷ rel)) 64 && nat_le (length (joined (a ∷ rel))) 1024) (list_all is_name (a ∷ rel)) e in
-    let few = le_of (length (a ∷ rel)) 64 (first_so (nat_le (length (a ∷ rel)) 64) (nat_le (length (joined (a ∷ rel))) 1024) two) in
-    let short = le_of (length (joined (a ∷ rel))) 1024 (second_so (nat_le (length (a ∷ rel)) 64) (nat_le (length (joined (a ∷ rel))) 1024) two) in
-    let tail = joined_tail a rel in
+    let few = le_from_test (length (a ∷ rel)) 64 (first_so (nat_le (length (a ∷ rel)) 64) (nat_le (length (joined (a ∷ rel))) 1024) two) in
+    let short = le_from_test (length (joined (a ∷ rel))) 1024 (second_so (nat_le (length (a ∷ rel)) 64) (nat_le (length (joined (a ∷ rel))) 1024) two) in
+    let tail = joined-tail a rel in
     and_from (nat_le (length rel) 64 && nat_le (length (joined rel)) 1024) (list_all is_name rel)
     (and_from (nat_le (length rel) 64) (nat_le (length (joined rel)) 1024) (of_le (length rel) 64 (omega arith)) (of_le (length (joined rel)) 1024 (omega arith)))
     (second_so (is_name a) (list_all is_name rel) names)
@@ -165,29 +151,36 @@ rel_drop (a ∷ rel) (b ∷ x) e = rel_drop rel x (rel_tail b x e)
 -- ---- the whole
 
 what_at_begin : (n : Node) → what_at (below_node n) [] ≡ Some (what_node n)
-what_at_begin n = ap (λ t. what_at t []) (begins n)
+what_at_begin n = ap (λ t. what_at t []) (node_begins n)
 
+-- where a node is found at and below a rel, that node stands at the rel
 pub what_found : (nodes : List Flat) (rel : List (List ℕ)) (n : Node) → below_node n ≡ sub_tree nodes rel → what_at nodes rel ≡ Some (what_node n)
 what_found nodes rel n e = what_at_sub rel nodes ∙ ap (λ t. what_at t []) (sym e) ∙ what_at_begin n
 
+-- where nothing is found at and below a rel, nothing stands at it
 pub what_not_found : (nodes : List Flat) (rel : List (List ℕ)) → [] ≡ sub_tree nodes rel → what_at nodes rel ≡ None
 what_not_found nodes rel e = what_at_sub rel nodes ∙ ap (λ t. what_at t []) (sym e)
 
+-- the kind at a rel is that of the node that is found there
 pub kind_found : (nodes : List Flat) (rel : List (List ℕ)) (n : Node) (k : Option Kind) → below_node n ≡ sub_tree nodes rel → k ≡ kind_of (what_node n)
     → Some k ≡ option_map kind_of (what_at nodes rel)
 kind_found nodes rel n k e f = ap (λ o. Some o) f ∙ ap (option_map kind_of) (sym (what_found nodes rel n e))
 
+-- there is no kind at a rel where nothing is found
 pub kind_not_found : (nodes : List Flat) (rel : List (List ℕ)) → [] ≡ sub_tree nodes rel → None ≡ option_map kind_of (what_at nodes rel)
 kind_not_found nodes rel e = ap (option_map kind_of) (sym (what_not_found nodes rel e))
 
+-- a tree has no tree at a rel where nothing is found
 pub sub_not_found : (nodes : List Flat) (rel : List (List ℕ)) → [] ≡ sub_tree nodes rel → None ≡ sub_at nodes rel
 sub_not_found nodes rel e = ap (λ o. if is_standing o then Some (sub_tree nodes rel) else None) (sym (what_not_found nodes rel e))
 
+-- a tree has no tree at a rel where a link is found
 pub sub_link : (nodes : List Flat) (rel : List (List ℕ)) (n : Node) → below_node n ≡ sub_tree nodes rel → is_link (what_node n) ≡ true → None ≡ sub_at nodes rel
 sub_link nodes rel n e f =
     ap (λ b. if not b then Some (sub_tree nodes rel) else None) (sym f)
     ∙ ap (λ o. if is_standing o then Some (sub_tree nodes rel) else None) (sym (what_found nodes rel n e))
 
+-- a tree has at a rel the node that is found there, where that is no link
 pub sub_found : (nodes : List Flat) (rel : List (List ℕ)) (n : Node) (t : List Flat) → below_node n ≡ sub_tree nodes rel → is_link (what_node n) ≡ false
     → t ≡ below_node n → Some t ≡ sub_at nodes rel
 sub_found nodes rel n t e f g =
@@ -195,8 +188,9 @@ sub_found nodes rel n t e f g =
     ∙ ap (λ o. if is_standing o then Some (sub_tree nodes rel) else None) (sym (what_found nodes rel n e))
 
 rooted_node : (n : Node) → is_link (what_node n) ≡ false → is_rooted (below_node n) ≡ true
-rooted_node n e = ap is_rooted (begins n) ∙ ap not e
+rooted_node n e = ap is_rooted (node_begins n) ∙ ap not e
 
+-- what is found at and below a rel of a tree is a tree, where it is no link
 pub sub_is_tree : (nodes : List Flat) (rel : List (List ℕ)) (n : Node) (t : List Flat) → IsTree nodes → below_node n ≡ sub_tree nodes rel
     → is_link (what_node n) ≡ false → t ≡ below_node n → IsTree t
 sub_is_tree nodes rel n t tree e f g =
@@ -210,5 +204,6 @@ sub_is_tree nodes rel n t tree e f g =
     } in
     subst (λ s. IsTree s) (sym (g ∙ e)) part
 
+-- a list that is equal to a tree is one
 pub is_tree_along : (a b : List Flat) → a ≡ b → IsTree b → IsTree a
 is_tree_along a b e t = subst (λ s. IsTree s) (sym e) t

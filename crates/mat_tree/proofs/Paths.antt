@@ -2,13 +2,11 @@
 use Rattle.mat_path.proofs.PathLemmas.{name_cmp-refl}
 use Rattle.mat_path.proofs.SameNames.{same_name-sym}
 use Rattle.std.proofs.Math.Bool.{and_assoc}
-use Rattle.std.proofs.Common.{◌≡◌, ℕ, Bool, true, false, ◌&&◌, List, [], ◌∷◌, length, drop, refl, ◌∙◌, sym, ap}
-use Rattle.std.specs.Cmp.{IsTotalOrder, first_so, second_so}
-use Rattle.std.specs.Cmp.Lexicographic.{same_text, texts_ties}
+use Rattle.std.proofs.Common.{◌≡◌, ℕ, true, false, ◌&&◌, List, [], ◌∷◌, length, drop, refl, ◌∙◌, sym, ap}
+use Rattle.std.specs.Cmp.Lexicographic.{texts_ties}
 use Rattle.std.specs.declared.cmp.Ordering.{Ordering}
 use Rattle.std.specs.declared.cmp.Ordering.TheVariants.{Less, Equal, Greater}
 use Rattle.std.specs.Ordering.{is_lt, is_eq, ordering_then}
-use Rattle.std.proofs.lemmas.Cmp.{lists_total, lists_equiv, nat_list_cmp_total, nat_list_eq_equiv, tied_itself}
 use Rattle.mat_path.specs.Names.{same_name, same_names, is_prefix, name_cmp, path_cmp}
 
 -- a name before another is another
@@ -17,8 +15,9 @@ lt_not_eq Less e = refl
 lt_not_eq Equal e = cc
 lt_not_eq Greater e = refl
 
-pub apart : (a b : List ℕ) → is_lt (path_cmp (a ∷ []) (b ∷ [])) ≡ true → same_name a b ≡ false
-apart a b e = texts_ties a b ∙ lt_not_eq (name_cmp a b) e
+-- a name before another one is not the same
+pub lesser_name_differs : (a b : List ℕ) → is_lt (path_cmp (a ∷ []) (b ∷ [])) ≡ true → same_name a b ≡ false
+lesser_name_differs a b e = texts_ties a b ∙ lt_not_eq (name_cmp a b) e
 
 -- behind one name two rels are as without it
 pub path_cmp_in : (a : List ℕ) (p q : List (List ℕ)) → path_cmp (a ∷ p) (a ∷ q) ≡ path_cmp p q

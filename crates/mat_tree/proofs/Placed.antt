@@ -21,13 +21,16 @@ placed_in names name (x ∷ xs) =
     ap (λ r. record { rel = r; what = x.what } ∷ placed names (map (put_in name) xs)) (sym (append_assoc names (name ∷ []) x.rel))
     ∙ ap (λ t. put_under (names ++ (name ∷ [])) x ∷ t) (placed_in names name xs)
 
+-- a child's list below some names is its node's below those and the child's name
 pub placed_child : (names : List (List ℕ)) (c : Child) → placed names (below_child c) ≡ placed (names ++ ((out-Child c).name ∷ [])) (below_node (out-Child c).node)
 placed_child names c = ap (placed names) (below_child_out c) ∙ placed_in names (out-Child c).name (below_node (out-Child c).node)
 
+-- below no names a list is as it is
 pub placed_nothing : (nodes : List Flat) → placed [] nodes ≡ nodes
 placed_nothing [] = refl
 placed_nothing (x ∷ xs) = ap (λ t. x ∷ t) (placed_nothing xs)
 
+-- below some names one more child adds its list behind the others'
 pub placed_push : (names : List (List ℕ)) (cs : List Child) (c : Child) → placed names (below_all (cs ++ (c ∷ []))) ≡ placed names (below_all cs) ++ placed names (below_child c)
 placed_push names cs c = ap (placed names) (below_all_push cs c) ∙ map-append (put_under names) (below_all cs) (below_child c)
 
@@ -65,6 +68,7 @@ listed_dir names n cs list e f =
     ∙ ap (λ r. record { rel = r; what = what.Dir } ∷ placed names (below_all list)) (append-nil names)
     ∙ ap (λ w. record { rel = names; what = w } ∷ placed names (below_all list)) (sym (what_dir n cs e))
 
+-- what a node without children lists below some names is itself at these names
 pub listed_leaf : (names : List (List ℕ)) (n : Node) (w : What) → below_node n ≡ at_root w ∷ [] → what_node n ≡ w
     → placed names (below_node n) ≡ record { rel = names; what = what_node n } ∷ []
 listed_leaf names n w e f =

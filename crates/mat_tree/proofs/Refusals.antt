@@ -1,11 +1,11 @@
 -- A list that nothing refuses is a tree.
-use Rattle.mat_path.proofs.SameNames.{same_names-eq, same_names-refl}
-use Rattle.mat_path.proofs.PathLemmas.{path_cmp-refl, path_cmp_total}
+use Rattle.mat_path.proofs.SameNames.{same_names-eq}
+use Rattle.mat_path.proofs.PathLemmas.{path_cmp-refl, prefix-refl}
 use Rattle.mat_path.proofs.Bools.{or_second}
 use Rattle.std.proofs.Math.Bool.{or-true}
 use Rattle.std.proofs.lemmas.Bool.{and_from, not-true, or_cases, or_left}
 use Rattle.std.specs.Cmp.{first_so, second_so}
-use Rattle.std.proofs.Common.{◌≡◌, ◌<◌, ◌≤◌, ◌+◌, ◌-◌, ℕ, suc, Bool, true, false, ◌&&◌, ◌||◌, not, nat_lt, if◌then◌else◌, List, [], ◌∷◌, ◌++◌, length, take, drop, get_or, refl, ◌∙◌, sym, ap, arith, append_assoc, ◌⊎◌, inl, inr, ◌==◌}
+use Rattle.std.proofs.Common.{◌≡◌, ◌<◌, ◌≤◌, ◌+◌, ◌-◌, ℕ, suc, Bool, true, false, ◌&&◌, ◌||◌, not, nat_lt, if◌then◌else◌, List, [], ◌∷◌, ◌++◌, length, take, drop, get_or, refl, ◌∙◌, sym, ap, arith, append_assoc, inl, inr, ◌==◌}
 use Rattle.std.proofs.lemmas.Bool.Decides.{nat_tests}
 use Rattle.std.proofs.lemmas.List.{take_all, drop_more}
 use Rattle.std.proofs.lemmas.List.Folds.{list_any-append}
@@ -23,14 +23,15 @@ use Rattle.mat_tree.specs.declared.refusal.TreeRefusal.{TreeRefusal}
 use Rattle.mat_tree.specs.declared.refusal.TreeRefusal.TheVariants as refusal
 use Rattle.mat_tree.specs.Trees.{is_root, is_at, is_after, is_dir, is_dir_at, is_link, ascends, parent_of, has_parent, has_rel, is_small, fault_behind, tree_refusal, follows, is_linked, IsTree}
 use Rattle.mat_tree.proofs.Paths.{path_cmp_in}
-use Rattle.mat_tree.proofs.Joins.{all_right}
-use Rattle.mat_tree.proofs.Ascending.{after_trans, ascends_right, lt_less, lt_trans_path}
+use Rattle.mat_tree.proofs.Joins.{all_right, lt_suc}
+use Rattle.mat_tree.proofs.Ascending.{after_trans, ascends_right}
 
 -- ---- the order of a rel and its parent
 
 lt_itself : (p : List (List ℕ)) → is_lt (path_cmp p p) ≡ false
 lt_itself p = ap is_lt (path_cmp-refl p)
 
+-- the parent of a rel comes before it
 pub parent_less : (rel : List (List ℕ)) → 1 ≤ length rel → is_lt (path_cmp (parent_of rel) rel) ≡ true
 parent_less [] h = absurd (omega arith)
 parent_less (a ∷ []) h = refl
@@ -42,20 +43,17 @@ begin_equal Less x y e f = cc
 begin_equal Equal x y e f = refl
 begin_equal Greater x y e f = cc
 
-lt_suc : (m n : ℕ) → nat_lt (suc m) (suc n) ≡ nat_lt m n
-lt_suc m n = grind (arith, nat_tests)
-
 lt_zero : (n : ℕ) → nat_lt 0 (suc n) ≡ true
 lt_zero n = grind (arith, nat_tests)
 
 -- a rel between a rel's parent and the rel has the parent as a prefix
-pub between : (x q : List (List ℕ)) → 1 ≤ length x → is_lt (path_cmp (parent_of x) q) ≡ true → is_lt (path_cmp q x) ≡ true
+pub between_is_below_parent : (x q : List (List ℕ)) → 1 ≤ length x → is_lt (path_cmp (parent_of x) q) ≡ true → is_lt (path_cmp q x) ≡ true
     → (is_prefix (parent_of x) q && nat_lt (length (parent_of x)) (length q)) ≡ true
-between [] q h e f = absurd (omega arith)
-between (a ∷ []) [] h e f = cc
-between (a ∷ []) (c ∷ q) h e f = lt_zero (length q)
-between (a ∷ b ∷ x) [] h e f = cc
-between (a ∷ b ∷ x) (c ∷ q) h e f =
+between_is_below_parent [] q h e f = absurd (omega arith)
+between_is_below_parent (a ∷ []) [] h e f = cc
+between_is_below_parent (a ∷ []) (c ∷ q) h e f = lt_zero (length q)
+between_is_below_parent (a ∷ b ∷ x) [] h e f = cc
+between_is_below_parent (a ∷ b ∷ x) (c ∷ q) h e f =
     let p = parent_of (b ∷ x) in
     let back : name_cmp c a ≡ ordering_reverse (name_cmp a c) = nat_list_cmp_total.antisymm c a in
     let back_lt : is_lt (ordering_then (ordering_reverse (name_cmp a c)) (path_cmp q (b ∷ x))) ≡ true
@@ -66,7 +64,7 @@ between (a ∷ b ∷ x) (c ∷ q) h e f =
     = ap (λ o. is_lt (ordering_then (ordering_reverse o) (path_cmp q (b ∷ x)))) (sym same) ∙ back_lt in
     let name : same_name a c ≡ true = texts_ties a c ∙ ap is_eq same in
     ap (λ t. (t && is_prefix p q) && nat_lt (suc (length p)) (suc (length q))) name
-    ∙ ap (λ t. is_prefix p q && t) (lt_suc (length p) (length q)) ∙ between (b ∷ x) q (omega arith) up down
+    ∙ ap (λ t. is_prefix p q && t) (lt_suc (length p) (length q)) ∙ between_is_below_parent (b ∷ x) q (omega arith) up down
 
 -- ---- what no fault says
 
@@ -76,6 +74,7 @@ fault_step true true k o e = (refl, (refl, e))
 fault_step true false k o e = cc
 fault_step false b k o e = cc
 
+-- a list in which nothing is at fault ascends
 pub no_fault_ascends : (nodes : List Flat) (before : Flat) (k : ℕ) (rest : List Flat) → fault_behind nodes before k rest ≡ None → ascends (before ∷ rest) ≡ true
 no_fault_ascends nodes before k [] e = refl
 no_fault_ascends nodes before k (node ∷ rest) e =
@@ -86,6 +85,7 @@ no_fault_ascends nodes before k (node ∷ rest) e =
     (after_trans before.rel node.rel rest told.0 (first_so (list_all (is_after node.rel) rest) (ascends rest) up)))
     up
 
+-- in a list in which nothing is at fault each node behind the first stands in a directory
 pub no_fault_parents : (nodes : List Flat) (before : Flat) (k : ℕ) (rest : List Flat) → fault_behind nodes before k rest ≡ None → list_all (has_parent nodes) rest ≡ true
 no_fault_parents nodes before k [] e = refl
 no_fault_parents nodes before k (node ∷ rest) e =
@@ -94,14 +94,13 @@ no_fault_parents nodes before k (node ∷ rest) e =
 
 -- ---- a tree's nodes follow one another
 
-prefix_itself : (p : List (List ℕ)) → is_prefix p p ≡ true
-prefix_itself p = ap (same_names p) (take_all (length p) p (omega arith)) ∙ same_names-refl p
-
+-- what comes after some rel is not the root
 pub after_not_root : (p : List (List ℕ)) (rel : List (List ℕ)) → is_lt (path_cmp p rel) ≡ true → same_names [] rel ≡ false
 after_not_root [] [] e = cc
 after_not_root (a ∷ p) [] e = cc
 after_not_root p (b ∷ rel) e = refl
 
+-- a rel that is not the root has a name
 pub not_root_below : (rel : List (List ℕ)) → same_names [] rel ≡ false → 1 ≤ length rel
 not_root_below [] e = cc
 not_root_below (b ∷ rel) e = omega arith
@@ -146,7 +145,7 @@ follows_dir node before e =
     let at = same_names-eq before.rel (parent_of node.rel) (first_so (is_at (parent_of node.rel) before) (is_dir before.what) e) in
     ap (λ d. is_prefix (parent_of node.rel) before.rel && (d || nat_lt (length (parent_of node.rel)) (length before.rel)))
     (second_so (is_at (parent_of node.rel) before) (is_dir before.what) e)
-    ∙ and_from (is_prefix (parent_of node.rel) before.rel) true (ap (is_prefix (parent_of node.rel)) at ∙ prefix_itself (parent_of node.rel)) refl
+    ∙ and_from (is_prefix (parent_of node.rel) before.rel) true (ap (is_prefix (parent_of node.rel)) at ∙ prefix-refl (parent_of node.rel)) refl
 
 follows_between : (node before : Flat) → (is_prefix (parent_of node.rel) before.rel && nat_lt (length (parent_of node.rel)) (length before.rel)) ≡ true → follows node.rel before ≡ true
 follows_between node before e =
@@ -155,6 +154,7 @@ follows_between node before e =
     (first_so (is_prefix (parent_of node.rel) before.rel) (nat_lt (length (parent_of node.rel)) (length before.rel)) e)
     (ap (λ t. is_dir before.what || t) short ∙ or-true (is_dir before.what))
 
+-- in a list that ascends, a node that has its parent there and is no root follows the node before it
 pub follows_parent : (done : List Flat) (before node : Flat) (rest : List Flat) → ascends (done ++ (before ∷ node ∷ rest)) ≡ true
     → has_parent (done ++ (before ∷ node ∷ rest)) node ≡ true → is_root node ≡ false → follows node.rel before ≡ true
 follows_parent done before node rest up has below =
@@ -171,13 +171,14 @@ follows_parent done before node rest up has below =
     let split : (list_any (is_dir_at p) done || (is_dir_at p before || list_any (is_dir_at p) (node ∷ rest))) ≡ true
     = sym (list_any-append (is_dir_at p) done (before ∷ node ∷ rest)) ∙ any in
     elim (or_cases (list_any (is_dir_at p) done) (is_dir_at p before || list_any (is_dir_at p) (node ∷ rest)) split) [
-      | inl h ↦ follows_between node before (between node.rel before.rel long (at_before p before.rel done (before_all done before (node ∷ rest) up) h) next)
+      | inl h ↦ follows_between node before (between_is_below_parent node.rel before.rel long (at_before p before.rel done (before_all done before (node ∷ rest) up) h) next)
       | inr h ↦ elim (or_cases (is_dir_at p before) (list_any (is_dir_at p) (node ∷ rest)) h) [
         | inl g ↦ follows_dir node before g
         | inr g ↦ let none = none_at p (node ∷ rest) behind in let clash : true ≡ false = sym g ∙ none in cc
       ]
     ]
 
+-- a list that ascends, with the parent of each node in it, is linked
 pub linked_from : (nodes done : List Flat) (before : Flat) (rest : List Flat) → nodes ≡ done ++ (before ∷ rest) → ascends nodes ≡ true
     → list_all (has_parent nodes) rest ≡ true → is_linked before rest ≡ true
 linked_from nodes done before [] e up has = refl
@@ -196,6 +197,7 @@ linked_from nodes done before (node ∷ rest) e up has =
 
 -- ---- the code's tests
 
+-- where a node is after the one before it and has its parent, what is at fault is behind it
 pub fault_more : (nodes : List Flat) (root before node : Flat) (rest : List Flat) (k : ℕ) → k < length rest → node ≡ get_or rest k node
     → fault_behind nodes root 1 rest ≡ fault_behind nodes before (k + 1) (drop k rest) → true ≡ is_after before.rel node → true ≡ has_parent nodes node
     → fault_behind nodes root 1 rest ≡ fault_behind nodes node (k + 1 + 1) (drop (k + 1) rest)
@@ -205,6 +207,7 @@ fault_more nodes root before node rest k h is so after parent =
     else fault_behind nodes node (k + 1 + 1) (drop (k + 1) rest)) (sym after)
     ∙ ap (λ b. if not b then Some (refusal.Under (k + 1)) else fault_behind nodes node (k + 1 + 1) (drop (k + 1) rest)) (sym parent)
 
+-- the parent of a rel is all its names but the last
 pub parent_is : (rel : List (List ℕ)) → take (length rel - 1) rel ≡ parent_of rel
 parent_is [] = refl
 parent_is (a ∷ []) = refl
@@ -212,6 +215,7 @@ parent_is (a ∷ b ∷ rel) =
     let e : length (a ∷ b ∷ rel) - 1 ≡ suc (length (b ∷ rel) - 1) = omega arith in
     ap (λ n. take n (a ∷ b ∷ rel)) e ∙ ap (λ t. a ∷ t) (parent_is (b ∷ rel))
 
+-- for a rel of some names, a directory at all of them but the last is the parent that it needs
 pub parent_told : (nodes : List Flat) (x : Flat) (names : List (List ℕ)) (r : Bool) → r ≡ list_any (is_dir_at (take (length names - 1) names)) nodes
     → false ≡ (length names == 0) → names ≡ x.rel → r ≡ has_parent nodes x
 parent_told nodes x names r told long is =
@@ -236,9 +240,11 @@ steps : (root : Flat) (rest : List Flat) → tree_refusal (root ∷ rest) ≡ No
     → (is_root root ≡ true) × ((is_link root.what ≡ false) × ((nat_lt 9999 (length rest) ≡ false) × (fault_behind (root ∷ rest) root 1 rest ≡ None)))
 steps root rest e = root_steps (is_root root) (is_link root.what) (nat_lt 9999 (length rest)) (fault_behind (root ∷ rest) root 1 rest) e
 
+-- a list that nothing refuses begins at the root
 pub no_refusal_root : (nodes : List Flat) (root : Flat) (rest : List Flat) → nodes ≡ root ∷ rest → tree_refusal nodes ≡ None → root.rel ≡ []
 no_refusal_root nodes root rest e f = sym (same_names-eq [] root.rel (steps root rest (ap tree_refusal (sym e) ∙ f)).0)
 
+-- a list that nothing refuses is linked
 pub no_refusal_linked : (nodes : List Flat) (root : Flat) (rest : List Flat) → nodes ≡ root ∷ rest → tree_refusal nodes ≡ None → is_linked root rest ≡ true
 no_refusal_linked nodes root rest e f =
     let none = (steps root rest (ap tree_refusal (sym e) ∙ f)).1.1.1 in
@@ -247,6 +253,7 @@ no_refusal_linked nodes root rest e f =
 few_of : (n : ℕ) → nat_lt 9999 n ≡ false → suc n ≤ 10000
 few_of n e = grind (arith, nat_tests)
 
+-- a list that nothing refuses, of small files and of rels, is a tree
 pub no_refusal_is_tree : (nodes : List Flat) → tree_refusal nodes ≡ None → list_all is_small nodes ≡ true → list_all has_rel nodes ≡ true → IsTree nodes
 no_refusal_is_tree [] e small rels = cc
 no_refusal_is_tree (root ∷ rest) e small rels =
@@ -261,31 +268,38 @@ no_refusal_is_tree (root ∷ rest) e small rels =
       rels = rels;
     }
 
+-- a list with an element is its first one and the others
 pub split_first : {X : Type 0} (xs : List X) (x : X) → 1 ≤ length xs → x ≡ get_or xs 0 x → xs ≡ x ∷ take (length xs - 1) (drop 1 xs)
 split_first [] x h e = absurd (omega arith)
 split_first (y ∷ xs) x h e = ap (λ z. z ∷ xs) (sym e) ∙ ap (λ t. x ∷ t) (sym (take_all (length (y ∷ xs) - 1) xs (omega arith)))
 
+-- something refuses the empty list
 pub some_refusal_of_nothing : (nodes : List Flat) → length nodes < 1 → tree_refusal nodes ≡ None → ⊥
 some_refusal_of_nothing [] h e = cc
 some_refusal_of_nothing (x ∷ nodes) h e = omega arith
 
 -- ---- the test of a node behind another
 
+-- whether a rel follows a node, from the names of its parent
 pub follows_is : (names parent place : List (List ℕ)) (before : Flat) → parent ≡ take (length names - 1) names → place ≡ before.rel
     → follows names before ≡ (is_prefix parent place && (is_dir before.what || nat_lt (length parent) (length place)))
 follows_is names parent place before e f =
     ap (λ p. is_prefix p before.rel && (is_dir before.what || nat_lt (length p) (length before.rel))) (sym (e ∙ parent_is names))
     ∙ ap (λ p. is_prefix parent p && (is_dir before.what || nat_lt (length parent) (length p))) (sym f)
 
-pub test_then : (f s d n : Bool) → f ≡ (s && (d || n)) → true ≡ s → true ≡ d → true ≡ f
-test_then f s d n e p q = sym (e ∙ ap (λ b. b && (d || n)) (sym p) ∙ ap (λ b. b || n) (sym q))
+-- a node follows where its parent is a prefix of the rel before, and that is a directory
+pub follows_dir_test : (f s d n : Bool) → f ≡ (s && (d || n)) → true ≡ s → true ≡ d → true ≡ f
+follows_dir_test f s d n e p q = sym (e ∙ ap (λ b. b && (d || n)) (sym p) ∙ ap (λ b. b || n) (sym q))
 
-pub test_else : (f s d n : Bool) → f ≡ (s && (d || n)) → true ≡ s → false ≡ d → n ≡ f
-test_else f s d n e p q = sym (e ∙ ap (λ b. b && (d || n)) (sym p) ∙ ap (λ b. b || n) (sym q))
+-- where the parent is a prefix and the node before is no directory, the lengths decide
+pub follows_length_test : (f s d n : Bool) → f ≡ (s && (d || n)) → true ≡ s → false ≡ d → n ≡ f
+follows_length_test f s d n e p q = sym (e ∙ ap (λ b. b && (d || n)) (sym p) ∙ ap (λ b. b || n) (sym q))
 
-pub test_not : (f s d n : Bool) → f ≡ (s && (d || n)) → false ≡ s → false ≡ f
-test_not f s d n e p = sym (e ∙ ap (λ b. b && (d || n)) (sym p))
+-- a node does not follow where its parent is no prefix of the rel before
+pub follows_no_test : (f s d n : Bool) → f ≡ (s && (d || n)) → false ≡ s → false ≡ f
+follows_no_test f s d n e p = sym (e ∙ ap (λ b. b && (d || n)) (sym p))
 
+-- a node that is after some rel has a name
 pub after_below : (p rel : List (List ℕ)) (x : Flat) → true ≡ is_after p x → rel ≡ x.rel → 1 ≤ length rel
 after_below p rel x e f = omega (arith, ap length f, not_root_below x.rel (after_not_root p x.rel (sym e)))
 
@@ -306,6 +320,7 @@ tree_no_fault nodes before k (node ∷ rest) up has =
 many_of : (n : ℕ) → suc n ≤ 10000 → nat_lt 9999 n ≡ false
 many_of n h = grind (arith, nat_tests)
 
+-- nothing refuses a tree
 pub is_tree_no_refusal : (nodes : List Flat) → IsTree nodes → tree_refusal nodes ≡ None
 is_tree_no_refusal [] t = let e : false ≡ true = t.root in cc
 is_tree_no_refusal (root ∷ rest) t =

@@ -1,4 +1,5 @@
 -- A search by halves among children in strict order of name.
+use Rattle.mat_path.proofs.PathLemmas.{lt_less}
 use Rattle.mat_path.proofs.SameNames.{same_name-eq, same_name-sym}
 use Rattle.std.specs.Cmp.{first_so, second_so}
 use Rattle.std.proofs.Common.{◌≡◌, ◌<◌, ◌≤◌, ℕ, zero, suc, Bool, true, false, cond, List, [], ◌∷◌, map, length, drop, get_or, nat_lt, refl, ◌∙◌, sym, ap, arith}
@@ -18,11 +19,6 @@ use Rattle.mat_tree.specs.Trees.{ascends, is_after}
 use Rattle.mat_tree.proofs.Ascending.{ascends_right}
 use Rattle.mat_tree.proofs.Joins.{all_left, all_right}
 use Rattle.mat_tree.proofs.Subtrees.{after_child, child_begins}
-
-lt_is : (o : Ordering) → is_lt o ≡ true → o ≡ Less
-lt_is Less h = refl
-lt_is Equal h = cc
-lt_is Greater h = cc
 
 -- ---- children of an ascending list are in order
 
@@ -47,12 +43,13 @@ all_behind name (c ∷ cs) e =
     (child_behind name c (all_left (is_after (name ∷ [])) (below_child c) (below_all cs) e))
     (all_behind name cs (all_right (is_after (name ∷ [])) (below_child c) (below_all cs) e))
 
-pub in_order : (cs : List Child) → ascends (below_all cs) ≡ true → are_in_order cs ≡ true
-in_order [] e = refl
-in_order (c ∷ cs) e =
+-- children whose lists ascend are in strict order of name
+pub children_in_order : (cs : List Child) → ascends (below_all cs) ≡ true → are_in_order cs ≡ true
+children_in_order [] e = refl
+children_in_order (c ∷ cs) e =
     and_from (list_all (is_behind (out-Child c).name) cs) (are_in_order cs)
     (all_behind (out-Child c).name cs (after_child c cs e))
-    (in_order cs (ascends_right (below_child c) (below_all cs) e))
+    (children_in_order cs (ascends_right (below_child c) (below_all cs) e))
 
 -- ---- what a search by halves asks, and what it answers
 
@@ -73,23 +70,24 @@ earlier a b name e = by (name_cmp b name) refl
   where
     by : (o : Ordering) → name_cmp b name ≡ o → ordering_index (name_cmp a name) ≤ ordering_index o
     by Less q =
-        let less : name_cmp a name ≡ Less = nat_list_cmp_total.trans a b name (lt_is (name_cmp a b) e) q in
+        let less : name_cmp a name ≡ Less = nat_list_cmp_total.trans a b name (lt_less (name_cmp a b) e) q in
         let none : ordering_index (name_cmp a name) ≡ 0 = ap ordering_index less in omega (arith, none)
     by Equal q =
         let same : b ≡ name = same_name-eq b name (texts_ties b name ∙ ap is_eq q) in
-        let less : name_cmp a name ≡ Less = ap (name_cmp a) (sym same) ∙ lt_is (name_cmp a b) e in
+        let less : name_cmp a name ≡ Less = ap (name_cmp a) (sym same) ∙ lt_less (name_cmp a b) e in
         let none : ordering_index (name_cmp a name) ≡ 0 = ap ordering_index less in omega (arith, none)
     by Greater q = index_small (name_cmp a name)
 
-pub rises : (name : List ℕ) (cs : List Child) → are_in_order cs ≡ true → IsNonDecreasingBy (λ c. ordering_index (child_cmp name c)) cs
-rises name [] e i j d le h = absurd (omega arith)
-rises name (c ∷ cs) e zero zero d le h = omega arith
-rises name (c ∷ cs) e zero (suc j) d le h =
+-- children in order rise past a name: each stands no earlier to it than those before
+pub order_rises : (name : List ℕ) (cs : List Child) → are_in_order cs ≡ true → IsNonDecreasingBy (λ c. ordering_index (child_cmp name c)) cs
+order_rises name [] e i j d le h = absurd (omega arith)
+order_rises name (c ∷ cs) e zero zero d le h = omega arith
+order_rises name (c ∷ cs) e zero (suc j) d le h =
     earlier (out-Child c).name (out-Child (get_or cs j d)).name name
     (behind_at (out-Child c).name cs j d (first_so (list_all (is_behind (out-Child c).name) cs) (are_in_order cs) e) (omega arith))
-rises name (c ∷ cs) e (suc i) zero d le h = absurd (omega arith)
-rises name (c ∷ cs) e (suc i) (suc j) d le h =
-    rises name cs (second_so (list_all (is_behind (out-Child c).name) cs) (are_in_order cs) e) i j d (omega arith) (omega arith)
+order_rises name (c ∷ cs) e (suc i) zero d le h = absurd (omega arith)
+order_rises name (c ∷ cs) e (suc i) (suc j) d le h =
+    order_rises name cs (second_so (list_all (is_behind (out-Child c).name) cs) (are_in_order cs) e) i j d (omega arith) (omega arith)
 
 -- a child is named as its name stands to the name
 named_is : (name : List ℕ) (c : Child) → is_named name c ≡ is_eq (child_cmp name c)
@@ -99,8 +97,9 @@ named_is name c = same_name-sym name (out-Child c).name ∙ texts_ties (out-Chil
 other_name : (name : List ℕ) (c e : Child) → is_behind (out-Child c).name e ≡ true → child_cmp name e ≡ Equal → is_named name c ≡ false
 other_name name c e behind equal =
     let same : (out-Child e).name ≡ name = same_name-eq (out-Child e).name name (texts_ties (out-Child e).name name ∙ ap is_eq equal) in
-    named_is name c ∙ ap is_eq (ap (name_cmp (out-Child c).name) (sym same) ∙ lt_is (name_cmp (out-Child c).name (out-Child e).name) behind)
+    named_is name c ∙ ap is_eq (ap (name_cmp (out-Child c).name) (sym same) ∙ lt_less (name_cmp (out-Child c).name (out-Child e).name) behind)
 
+-- of children in order, the one that stands equal to a name is found by it
 pub found_at : (name : List ℕ) (cs : List Child) (k : ℕ) (d : Child) → are_in_order cs ≡ true → k < length cs
     → child_cmp name (get_or cs k d) ≡ Equal → Some (get_or cs k d) ≡ find (is_named name) cs
 found_at name [] k d e h q = absurd (omega arith)

@@ -1,6 +1,6 @@
 -- The nodes at and below a rel.
 use Rattle.mat_path.proofs.SameNames.{same_name-eq}
-use Rattle.std.specs.Cmp.{first_so, second_so}
+use Rattle.std.specs.Cmp.{first_so}
 use Rattle.std.proofs.Common.{◌≡◌, ℕ, Bool, true, false, cond, ◌&&◌, List, [], ◌∷◌, ◌++◌, map, length, drop, take, get_or, ◌≤◌, ◌-◌, refl, ◌∙◌, sym, ap, append-nil, arith}
 use Rattle.std.proofs.lemmas.List.{take_all}
 use Rattle.std.specs.List.{list_all, find, filter}
@@ -17,10 +17,11 @@ use Rattle.mat_tree.specs.declared.node.Children.{Children, out-Children}
 use Rattle.mat_tree.specs.declared.node.Node.TheVariants as variant
 use Rattle.mat_tree.specs.Nodes.{at_root, put_in, node_step, child_step, children_step, layer_what, what_node, below_node, below_child, below_children, below_all, is_named}
 use Rattle.mat_tree.specs.Trees.{is_at, is_after, ascends, is_below, seen_from, sub_tree, what_of, what_at}
-use Rattle.mat_tree.proofs.Paths.{apart, same_as_prefix}
+use Rattle.mat_tree.proofs.Paths.{lesser_name_differs, same_as_prefix}
 use Rattle.mat_tree.proofs.Ascending.{after_first, ascends_left, ascends_right, ascends_in}
 use Rattle.mat_tree.proofs.Folds.{below_child_out, below_dir_out}
 use Rattle.mat_tree.proofs.Joins.{all_left, all_right}
+use Rattle.mat_tree.proofs.Orders.{dir_order}
 
 -- ---- a node's list begins with the node
 
@@ -35,18 +36,21 @@ layer_what_map (layer.File digest exec) = refl
 layer_what_map (layer.Dir children) = refl
 layer_what_map (layer.Link target) = refl
 
-pub begins : (n : Node) → below_node n ≡ at_root (what_node n) ∷ drop 1 (below_node n)
-begins n =
+-- a node's list begins with the node at the root
+pub node_begins : (n : Node) → below_node n ≡ at_root (what_node n) ∷ drop 1 (below_node n)
+node_begins n =
     let x = map-Node Node Child Children (List Flat) (List Flat) (List Flat) below_node below_child below_children (out-Node n) in
     let e : below_node n ≡ node_step x = fold_out-Node (List Flat) (List Flat) (List Flat) node_step child_step children_step n in
     e ∙ begins_layer x ∙ ap (λ w. at_root w ∷ drop 1 (node_step x)) (layer_what_map (out-Node n)) ∙ ap (λ t. at_root (what_node n) ∷ drop 1 t) (sym e)
 
 -- ---- at and below a rel
 
+-- what is at and below the root is all
 pub sub_tree_root : (xs : List Flat) → sub_tree xs [] ≡ xs
 sub_tree_root [] = refl
 sub_tree_root (x ∷ xs) = ap (λ t. x ∷ t) (sub_tree_root xs)
 
+-- what is at and below a rel in two lists is what is so in each
 pub sub_tree-append : (rel : List (List ℕ)) (xs ys : List Flat) → sub_tree (xs ++ ys) rel ≡ sub_tree xs rel ++ sub_tree ys rel
 sub_tree-append rel [] ys = refl
 sub_tree-append rel (x ∷ xs) ys =
@@ -88,10 +92,10 @@ sub_tree_after name more [] e = refl
 sub_tree_after name more (c ∷ cs) e =
     let first : list_all (is_after (name ∷ [])) (below_child c) ≡ true = all_left (is_after (name ∷ [])) (below_child c) (below_all cs) e in
     let rest = all_right (is_after (name ∷ [])) (below_child c) (below_all cs) e in
-    let is = below_child_out c ∙ ap (map (put_in (out-Child c).name)) (begins (out-Child c).node) in
+    let is = below_child_out c ∙ ap (map (put_in (out-Child c).name)) (node_begins (out-Child c).node) in
     let told : list_all (is_after (name ∷ [])) (map (put_in (out-Child c).name) (at_root (what_node (out-Child c).node) ∷ drop 1 (below_node (out-Child c).node))) ≡ true
     = ap (list_all (is_after (name ∷ []))) (sym is) ∙ first in
-    let other = apart name (out-Child c).name (first_so (is_after (name ∷ []) (put_in (out-Child c).name (at_root (what_node (out-Child c).node))))
+    let other = lesser_name_differs name (out-Child c).name (first_so (is_after (name ∷ []) (put_in (out-Child c).name (at_root (what_node (out-Child c).node))))
     (list_all (is_after (name ∷ [])) (map (put_in (out-Child c).name) (drop 1 (below_node (out-Child c).node)))) told) in
     sub_tree-append (name ∷ more) (below_child c) (below_all cs)
     ∙ ap (λ t. sub_tree t (name ∷ more) ++ sub_tree (below_all cs) (name ∷ more)) (below_child_out c)
@@ -107,7 +111,7 @@ found_sub more (Some c) = sub_tree (below_node (out-Child c).node) more
 
 -- a child's list begins with its name
 pub child_begins : (c : Child) → below_child c ≡ put_in (out-Child c).name (at_root (what_node (out-Child c).node)) ∷ map (put_in (out-Child c).name) (drop 1 (below_node (out-Child c).node))
-child_begins c = below_child_out c ∙ ap (map (put_in (out-Child c).name)) (begins (out-Child c).node)
+child_begins c = below_child_out c ∙ ap (map (put_in (out-Child c).name)) (node_begins (out-Child c).node)
 
 -- the children behind a child come after its name
 pub after_child : (c : Child) (cs : List Child) → ascends (below_all (c ∷ cs)) ≡ true → list_all (is_after ((out-Child c).name ∷ [])) (below_all cs) ≡ true
@@ -115,6 +119,7 @@ after_child c cs e =
     after_first (put_in (out-Child c).name (at_root (what_node (out-Child c).node))) (map (put_in (out-Child c).name) (drop 1 (below_node (out-Child c).node))) (below_all cs)
     (ap (λ t. ascends (t ++ below_all cs)) (sym (child_begins c)) ∙ e)
 
+-- what is at and below some names is what the child of the first name has at and below the others
 pub sub_tree_children : (name : List ℕ) (more : List (List ℕ)) (cs : List Child) → ascends (below_all cs) ≡ true
     → sub_tree (below_all cs) (name ∷ more) ≡ found_sub more (find (is_named name) cs)
 sub_tree_children name more [] e = refl
@@ -149,26 +154,23 @@ child_ascends name (d ∷ cs) c e f =
         ∙ ap ascends (sym (below_child_out d)) ∙ ascends_left (below_child d) (below_all cs) e
     by false more g = more g
 
-pub dir_ascends : (n : Node) (cs : Children) (list : List Child) → n ≡ variant.Dir cs → list ≡ (out-Children cs).list → ascends (below_node n) ≡ true
-    → ascends (below_all list) ≡ true
-dir_ascends n cs list e f up =
-    second_so (list_all (is_after []) (below_all list)) (ascends (below_all list)) (ap ascends (sym (below_dir_out n cs list e f)) ∙ up)
-
 -- what is at and below some names, from the child of the first
-pub descends : (n : Node) (cs : Children) (list : List Child) (names : List (List ℕ)) (name : List ℕ) (more : List (List ℕ)) (o : Option Child)
+pub sub_tree_of_child : (n : Node) (cs : Children) (list : List Child) (names : List (List ℕ)) (name : List ℕ) (more : List (List ℕ)) (o : Option Child)
     → n ≡ variant.Dir cs → list ≡ (out-Children cs).list → names ≡ name ∷ more → ascends (below_node n) ≡ true → o ≡ find (is_named name) list
     → found_sub more o ≡ sub_tree (below_node n) names
-descends n cs list names name more o e f is up so =
-    ap (found_sub more) so ∙ sym (sub_tree_children name more list (dir_ascends n cs list e f up))
+sub_tree_of_child n cs list names name more o e f is up so =
+    ap (found_sub more) so ∙ sym (sub_tree_children name more list (dir_order n cs list e f up))
     ∙ ap (λ t. sub_tree t (name ∷ more)) (sym (below_dir_out n cs list e f)) ∙ ap (sub_tree (below_node n)) (sym is)
 
+-- the child of a directory that is found by a name ascends where the directory does
 pub step_ascends : (n : Node) (cs : Children) (list : List Child) (name : List ℕ) (c : Child)
     → n ≡ variant.Dir cs → list ≡ (out-Children cs).list → ascends (below_node n) ≡ true → Some c ≡ find (is_named name) list
     → ascends (below_node (out-Child c).node) ≡ true
-step_ascends n cs list name c e f up so = child_ascends name list c (dir_ascends n cs list e f up) so
+step_ascends n cs list name c e f up so = child_ascends name list c (dir_order n cs list e f up) so
 
 -- ---- what stands at a rel, from what is at and below it
 
+-- what stands at a rel stands at the root of what is at and below it
 pub what_at_sub : (rel : List (List ℕ)) (xs : List Flat) → what_at xs rel ≡ what_at (sub_tree xs rel) []
 what_at_sub rel [] = refl
 what_at_sub rel (x ∷ xs) =

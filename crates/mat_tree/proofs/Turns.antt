@@ -1,5 +1,6 @@
 -- Where each node comes after the one before it and stands in a directory of those before it, there is no fault.
-use Rattle.mat_path.proofs.SameNames.{same_name-eq, same_name-refl, same_names-refl}
+use Rattle.mat_path.proofs.SameNames.{same_name-eq, same_names-refl}
+use Rattle.mat_path.proofs.PathLemmas.{prefix-refl, prefix-trans}
 use Rattle.mat_path.proofs.Bools.{or_first, or_weaker}
 use Rattle.std.proofs.lemmas.Bool.{and_from, or_left, or_right}
 use Rattle.std.specs.Cmp.{first_so, second_so}
@@ -13,20 +14,9 @@ use Rattle.mat_path.specs.Names.{same_name, same_names, is_prefix}
 use Rattle.mat_tree.specs.declared.flat.Flat.{Flat}
 use Rattle.mat_tree.specs.declared.refusal.TreeRefusal.TheVariants as refusal
 use Rattle.mat_tree.specs.Trees.{is_root, is_at, is_after, is_dir, is_dir_at, parent_of, has_parent, fault_behind, follows, is_in_turn}
+use Rattle.mat_tree.proofs.Joins.{lt_suc}
 
 -- ---- prefixes
-
-lt_suc : (m n : ℕ) → nat_lt (suc m) (suc n) ≡ nat_lt m n
-lt_suc m n = grind (arith, nat_tests)
-
-prefix_trans : (p q r : List (List ℕ)) → is_prefix p q ≡ true → is_prefix q r ≡ true → is_prefix p r ≡ true
-prefix_trans [] q r e f = refl
-prefix_trans (a ∷ p) [] r e f = cc
-prefix_trans (a ∷ p) (b ∷ q) [] e f = cc
-prefix_trans (a ∷ p) (b ∷ q) (c ∷ r) e f =
-    and_from (same_name a c) (is_prefix p r)
-    (ap (λ n. same_name n c) (same_name-eq a b (first_so (same_name a b) (is_prefix p q) e)) ∙ first_so (same_name b c) (is_prefix q r) f)
-    (prefix_trans p q r (second_so (same_name a b) (is_prefix p q) e) (second_so (same_name b c) (is_prefix q r) f))
 
 prefix_length : (p q : List (List ℕ)) → is_prefix p q ≡ true → length p ≤ length q
 prefix_length [] q e = omega arith
@@ -81,13 +71,9 @@ at_folder : (nodes done : List Flat) (before : Flat) (rest : List Flat) (rel : L
 at_folder nodes done before rest rel is folders f p e =
     let inside = first_so (is_prefix (parent_of rel) before.rel) (is_dir before.what || nat_lt (length (parent_of rel)) (length before.rel)) f in
     let open_or = second_so (is_prefix (parent_of rel) before.rel) (is_dir before.what || nat_lt (length (parent_of rel)) (length before.rel)) f in
-    at_prefix nodes done before rest is folders p (prefix_trans p (parent_of rel) before.rel e inside)
+    at_prefix nodes done before rest is folders p (prefix-trans p (parent_of rel) before.rel e inside)
     (or_weaker (is_dir before.what) (nat_lt (length (parent_of rel)) (length before.rel)) (nat_lt (length p) (length before.rel))
     (lt_le (length p) (length (parent_of rel)) (length before.rel) (prefix_length p (parent_of rel) e)) open_or)
-
-prefix_itself : (p : List (List ℕ)) → is_prefix p p ≡ true
-prefix_itself [] = refl
-prefix_itself (a ∷ p) = and_from (same_name a a) (is_prefix p p) (same_name-refl a) (prefix_itself p)
 
 in_turn_behind : (nodes done : List Flat) (before : Flat) (k : ℕ) (rest : List Flat) → nodes ≡ done ++ (before ∷ rest) → HasFolders nodes before.rel
     → is_in_turn before rest ≡ true → fault_behind nodes before k rest ≡ None
@@ -99,12 +85,13 @@ in_turn_behind nodes done before k (node ∷ rest) is folders e =
     let more = second_so (is_after before.rel node && follows node.rel before) (is_in_turn node rest) e in
     let parent : has_parent nodes node ≡ true
     = or_right (is_root node) (list_any (is_dir_at (parent_of node.rel)) nodes)
-    (at_folder nodes done before (node ∷ rest) node.rel is folders follow (parent_of node.rel) (prefix_itself (parent_of node.rel))) in
+    (at_folder nodes done before (node ∷ rest) node.rel is folders follow (parent_of node.rel) (prefix-refl (parent_of node.rel))) in
     ap (λ b. if not b then Some (refusal.Order k) else if not (has_parent nodes node) then Some (refusal.Under k) else fault_behind nodes node (k + 1) rest) after
     ∙ ap (λ b. if not b then Some (refusal.Under k) else fault_behind nodes node (k + 1) rest) parent
     ∙ in_turn_behind nodes (done ++ (before ∷ [])) node (k + 1) rest (is ∙ sym (append_assoc done (before ∷ []) (node ∷ rest)))
     (λ p f g. at_folder nodes done before (node ∷ rest) node.rel is folders follow p (prefix_parent p node.rel f g)) more
 
+-- nothing is at fault in a list whose nodes are in turn
 pub in_turn_no_fault : (nodes : List Flat) (root : Flat) (rest : List Flat) → nodes ≡ root ∷ rest → root.rel ≡ [] → is_in_turn root rest ≡ true
     → fault_behind nodes root 1 rest ≡ None
 in_turn_no_fault nodes root rest e f g =
@@ -115,6 +102,7 @@ in_turn_no_fault nodes root rest e f g =
 
 -- ---- a step of the loop
 
+-- from a place on nodes are in turn exactly where the one there is after and follows the one before, and those behind are
 pub in_turn_more : (root before node : Flat) (rest : List Flat) (k : ℕ) → k < length rest → node ≡ get_or rest k node
     → is_in_turn root rest ≡ is_in_turn before (drop k rest)
     → is_in_turn root rest ≡ (is_after before.rel node && follows node.rel before && is_in_turn node (drop (k + 1) rest))

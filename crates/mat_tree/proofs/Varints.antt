@@ -3,7 +3,7 @@ use Rattle.std.proofs.Common.{◌≡◌, ◌<◌, ◌≤◌, ◌+◌, ◌*◌, �
 use Rattle.std.proofs.lemmas.Bool.Decides.{nat_tests}
 use Rattle.mat_tree.specs.Messages.{groups_of, varint}
 
--- what this many groups and one more can hold
+-- how many numbers this many groups and one more can spell
 abbrev room : ℕ → ℕ
 room zero = 128
 room (suc groups) = 128 * room groups
@@ -58,6 +58,7 @@ varint_short n = groups_few 10 n
 pub varint_one : (n : ℕ) → n < 128 → length (varint n) ≡ 1
 varint_one n h = ap length (varint_small n h)
 
+-- the varint of a number of 128 or more is one byte longer than that of its rest
 pub varint_longer : (n : ℕ) → n < 2 ^ 64 → 128 ≤ n → length (varint n) ≡ 1 + length (varint (n / 128))
 varint_longer n h k = ap length (varint_step n h k) ∙ suc_is (length (varint (n / 128)))
   where

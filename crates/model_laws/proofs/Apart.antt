@@ -1,19 +1,13 @@
 -- Rows in strict order of which no two overlap: they stay so where a row is put at a clear place, and where each row keeps its path.
 use Rattle.mat_path.proofs.Overlaps.{overlap-refl}
-use Rattle.std.proofs.Common.{◌≡◌, ℕ, Bool, true, false, not, ◌&&◌, List, [], ◌∷◌, cond, Ordering, Less, Equal, Greater, refl, sym, ap, ap₂, subst, ◌∙◌, map, drop, length}
+use Rattle.std.proofs.Common.{◌≡◌, ℕ, Bool, true, false, not, ◌&&◌, List, [], ◌∷◌, cond, Ordering, Less, Equal, Greater, refl, sym, ap, ap₂, subst, ◌∙◌, map}
 use Rattle.std.specs.Ordering.{is_lt, ordering_reverse}
 use Rattle.std.specs.List.{list_any, list_all}
-use Rattle.std.proofs.lemmas.Bool.{and_from, and_parts, both_ways, not-true, or_left, or_parts}
-use Rattle.mat_path.specs.Names.{is_prefix, overlap, path_cmp}
-use Rattle.mat_path.proofs.PathLemmas.{path_cmp_total, path_cmp_equal, overlap_comm, prefix-append_cases, prefix-refl, prefix_split}
+use Rattle.std.proofs.lemmas.Bool.{and_from, and_parts, both_ways, not-true, or_parts}
+use Rattle.mat_path.specs.Names.{overlap, path_cmp}
+use Rattle.mat_path.proofs.PathLemmas.{lt_less, path_cmp_total, path_cmp_equal, overlap_comm}
 use Rattle.mat_model.specs.declared.book.Row.{Row}
 use Rattle.mat_model.specs.Rows.{are_apart, comes_before, is_apart, overlaps_row, put_row}
-
--- where an answer is Less
-lt_is : (o : Ordering) → is_lt o ≡ true → o ≡ Less
-lt_is Less h = refl
-lt_is Equal h = cc
-lt_is Greater h = cc
 
 -- an answer the other way round, where it is neither Less nor Equal
 turned_lt : (o : Ordering) → is_lt o ≡ false → (o ≡ Equal → ⊥) → is_lt (ordering_reverse o) ≡ true
@@ -25,7 +19,7 @@ turned_lt Greater h differ = refl
 pub before-trans : (p q r : List (List ℕ)) → comes_before p q ≡ true → comes_before q r ≡ true → comes_before p r ≡ true
 before-trans p q r first second =
     let all : path_cmp p r ≡ Less =
-    path_cmp_total.trans p q r (lt_is (path_cmp p q) first) (lt_is (path_cmp q r) second) in
+    path_cmp_total.trans p q r (lt_less (path_cmp p q) first) (lt_less (path_cmp q r) second) in
     ap is_lt all
 
 -- of two paths that don't overlap one comes before the other

@@ -1,5 +1,5 @@
 -- The rule of the open tickets of a book, after a request and after the end of a job: a row that doesn't stand covers what each one asks for.
-use Rattle.mat_path.proofs.Elements.{contains_filter, contains_map}
+use Rattle.mat_path.proofs.Elements.{contains_filter, contains_map, filtered_contains}
 use Rattle.mat_path.proofs.Overlaps.{overlap-refl}
 use Rattle.mat_path.proofs.SameNames.{same_names-eq}
 use Rattle.std.proofs.Common.{◌≡◌, ℕ, ◌==◌, Bool, true, false, not, ◌&&◌, ◌⊎◌, List, Some, None, cond, inl, inr, refl, sym, ap, subst, ◌∙◌, map, find, Contains}
@@ -18,11 +18,11 @@ use Rattle.mat_model.specs.Declarations.{new_row}
 use Rattle.mat_model.specs.Rows.{are_apart, covers, is_at_path, is_clear_of, overlaps_row, put_row, standing_row, used_row}
 use Rattle.mat_model.specs.Tickets.{answered_by, answered_by_any, is_lost, is_open, left_ticket, waits_for}
 use Rattle.mat_model.specs.Work.{is_declared}
-use Rattle.model_laws.proofs.BooksLists.{all-mapped, any_contains, contains_any, filter_contains}
+use Rattle.model_laws.proofs.BooksLists.{all-mapped, any_contains, contains_any}
 use Rattle.model_laws.proofs.BooksRows.{apart_same, cover_same, put_row_cases}
 use Rattle.model_laws.proofs.BooksTickets.{failed_cases, left_cases, made_cases}
-use Rattle.model_laws.proofs.LawLemmas.{contains_put}
-use Rattle.model_laws.proofs.Makes.{found_contains}
+use Rattle.model_laws.proofs.PutRows.{contains_put}
+use Rattle.model_laws.proofs.Elements.{found_contains}
 use Rattle.model_laws.proofs.Serving.{Changes, Endings}
 use Rattle.model_laws.proofs.Elements.{found_passes}
 
@@ -98,7 +98,7 @@ parted gone left opposite rows = record {
         | true ↦ λ is. inr (contains_filter gone rows row is among)
         | false ↦ λ off. inl (contains_filter left rows row (opposite row ∙ ap not off) among)
       ] refl;
-  origin = λ row among. inl (filter_contains left rows row among);
+  origin = λ row among. inl (filtered_contains left rows row among).0;
 }
 
 -- and so do those stay among which a row is put that doesn't stand
@@ -184,6 +184,7 @@ failed_awaited : (rows some : List Row) (number : ℕ) (given : Answer) (ticket 
 failed_awaited rows some number given ticket awaited =
     failed_cases (IsAwaited rows) some number given ticket (λ lies. absurd cc) (λ stays. awaited)
 
+-- the end of a job keeps what open tickets ask for covered by rows that lie
 pub ended_awaited : (number : ℕ) (book : Book) → are_apart book.rows ≡ true → All (IsAwaited book.rows) book.tickets →
     Endings (λ (b : Book). All (IsAwaited b.rows) b.tickets) number book
 ended_awaited number book apart awaited = record {

@@ -20,6 +20,7 @@ no_waiters [] none = refl
 no_waiters (waiter ∷ waiters) none =
     let zero : length (waiter ∷ waiters) ≡ 0 = eqb-true (length (waiter ∷ waiters)) 0 none in absurd (omega (arith, zero))
 
+-- a command is admitted at once only where nobody waits
 pub admits_alone : (state : ℕ) (book : Book) → admits state book ≡ true → book.waiting ≡ []
 admits_alone state book may =
     no_waiters book.waiting

@@ -33,7 +33,9 @@ use Rattle.model_laws.proofs.BooksGate.{asked_held, asked_once}
 use Rattle.model_laws.proofs.BooksLists.{any_contains, found_alone, none_counted}
 use Rattle.model_laws.proofs.BooksRows.{asked_summed, cover_same, ended_summed}
 use Rattle.model_laws.proofs.BooksTickets.{AreNumbered, asked_asking, asked_holds, asked_numbered, below_more, ended_asking, ended_numbered}
-use Rattle.model_laws.proofs.LawLemmas.{after_event, finish_apart, finish_gated, serve_apart, serve_gated}
+use Rattle.model_laws.proofs.ApartLemmas.{finish_apart, serve_apart}
+use Rattle.model_laws.proofs.GateLemmas.{finish_gated, serve_gated}
+use Rattle.model_laws.proofs.HistoryLemmas.{after_event}
 use Rattle.model_laws.proofs.LegalLemmas.{finish-clock, serve-clock}
 use Rattle.model_laws.proofs.Serving.{asked_by, ended_beside, ended_by}
 
@@ -106,7 +108,7 @@ refuse_rules number begun note book rules =
       covered = (ended_awaited number book rules.apart rules.covered).fails some (answer.Fault note);
     }
 
--- the rules hold at a later moment, and where the next number is greater
+-- the rules are kept at a later moment, and where the next number is greater
 later_rules : (number now : ℕ) (book : Book) → IsBook number book → IsBook (number + 1) (record book { now = now })
 later_rules number now book rules = record {
   apart = rules.apart;
@@ -153,6 +155,7 @@ entry_rules point entry rules =
       ends = λ task out how. finish_rules (next_number point) task out how point.book rules;
     }))
 
+-- a history keeps the rules of a book
 pub history_rules : (point : Point) (later : List Entry) → IsBook (next_number point) point.book →
     IsBook (next_number (after_all point later)) (after_all point later).book
 history_rules point [] rules = rules
@@ -198,6 +201,7 @@ front_reason live now waiter few held =
     other_state None off = absurd cc
     other_state (Some state) off = (state, refl, λ same. both_ways (state == waiter.state) off (eq-eqb state waiter.state same))
 
+-- who is at the front of the queue waits for room or for another state
 pub front_waits : (next : ℕ) (book : Book) (waiter : Waiter) (others : List Waiter) → IsBook next book → book.waiting ≡ waiter ∷ others →
     WaitsRightly book waiter
 front_waits next book waiter others rules is =
@@ -222,6 +226,7 @@ somebody_live next book waiter others rules is =
 none_paired : {A : Type 0} (R : A → A → Type 0) → AllPairs R []
 none_paired R i j d first second = absurd (omega (arith, first, second))
 
+-- an idle book with its rows apart and each with the sum of its tree keeps all rules
 pub idle_rules : (next : ℕ) (book : Book) → IsIdle book → are_apart book.rows ≡ true → All IsSummed book.rows → IsBook next book
 idle_rules next book idle apart sums = record {
   apart = apart;

@@ -1,9 +1,9 @@
 -- What is true of all elements of a list and of some of them, where the list is mapped, filtered or added to.
 use Rattle.mat_path.proofs.Elements.{contains_cases, contains_first, contains_more}
 use Rattle.std.proofs.Common.{◌≡◌, ◌+◌, Bool, true, false, List, [], ◌∷◌, Some, cond, inl, inr, refl, sym, ap, subst, ◌∙◌, map, find, Contains, count_by, arith}
-use Rattle.std.specs.List.{All, filter, list_any}
+use Rattle.std.specs.List.{All, list_any}
 use Rattle.std.proofs.lemmas.Bool.{both_ways, or_parts}
-use Rattle.std.proofs.lemmas.List.Elements.{All-contains, All-contains_itself, All-filter, All-map, All-weaker, All-cons, All-nil}
+use Rattle.std.proofs.lemmas.List.Elements.{All-contains_itself, All-map, All-weaker, All-cons, All-nil}
 use Rattle.std.proofs.lemmas.List.Folds.{Any-from_list_any, list_any-from_Any}
 use Rattle.std.proofs.lemmas.List.Sums.{sum_by-cons}
 
@@ -14,10 +14,6 @@ all_each {A = A} P xs each = All-weaker (Contains xs) P each xs (All-contains_it
 -- what is true of all is true of all once each is mapped, where that keeps it
 pub all-mapped : {A : Type 0} (P Q : A → Type 0) (f : A → A) → ((x : A) → P x → Q (f x)) → (xs : List A) → All P xs → All Q (map f xs)
 all-mapped {A = A} P Q f keeps xs all = All-map Q f xs (All-weaker P (λ (x : A). Q (f x)) keeps xs all)
-
--- an element of a filtered list is one of the list
-pub filter_contains : {A : Type 0} (p : A → Bool) (xs : List A) (y : A) → Contains (filter p xs) y → Contains xs y
-filter_contains p xs y among = All-contains (Contains xs) (filter p xs) y (All-filter p (Contains xs) xs (All-contains_itself xs)) among
 
 -- an element that passes a test, where some element does
 pub any_contains : {A : Type 0} (p : A → Bool) (xs : List A) → list_any p xs ≡ true → (x : A) × Contains xs x × (p x ≡ true)

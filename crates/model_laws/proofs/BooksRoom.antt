@@ -15,7 +15,8 @@ use Rattle.mat_model.specs.Gate.{Admitted, Served, admit, admits, admits_front, 
 use Rattle.mat_model.specs.History.{IsEach, Point, after, after_all, request_context, next_number}
 use Rattle.mat_model.specs.Requests.{RequestContext, at_moment, serve, serve_now}
 use Rattle.mat_model.specs.Room.{HasRoom, full_event, full_served, waits_past}
-use Rattle.model_laws.proofs.LawLemmas.{after_event, filter_le}
+use Rattle.model_laws.proofs.HistoryLemmas.{after_event}
+use Rattle.model_laws.proofs.ListTests.{filter_le}
 use Rattle.model_laws.proofs.Serving.{asked_by, ended_beside, ended_by}
 
 -- at most 64 wait
@@ -92,6 +93,7 @@ entry_short limits point entry short room =
           (ended_beside IsShort (next_number point) point.book (λ rows tickets. short));
     })
 
+-- the queue stays short over a history that had room for each entry
 pub history_short : (limits : Limits) (point : Point) (later : List Entry) → IsShort point.book → IsEach (HasRoom limits) point later →
     IsShort (after_all point later).book
 history_short limits point [] short room = short

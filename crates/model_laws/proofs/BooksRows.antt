@@ -63,6 +63,7 @@ asked_summed number request book sums = record {
   removes = λ gone left opposite disturbed. All-filter left IsSummed book.rows sums;
 }
 
+-- the end of a job leaves each row's sum the sum of its tree
 pub ended_summed : (number : ℕ) (book : Book) → All IsSummed book.rows → Endings (λ (b : Book). All IsSummed b.rows) number book
 ended_summed number book sums = record {
   same = sums;

@@ -74,10 +74,12 @@ pub left_cases : (Q : Ticket → Type 0) (number : ℕ) (removed left : List Row
     (is_lost removed left ticket ≡ false → Q ticket) → Q (left_ticket number removed left ticket)
 left_cases Q number removed left ticket = answer_cases Q (is_lost removed left ticket) number answer.Undeclared ticket
 
+-- a ticket after a make is answered, or it did not wait for the row and stays
 pub made_cases : (Q : Ticket → Type 0) (row : Row) (number : ℕ) (given : Answer) (ticket : Ticket) → Q (with_answer number given ticket) →
     (waits_for row ticket ≡ false → Q ticket) → Q (answered_by row number given ticket)
 made_cases Q row number given ticket = answer_cases Q (waits_for row ticket) number given ticket
 
+-- a ticket after a failure is answered, or it waited for none of the rows and stays
 pub failed_cases : (Q : Ticket → Type 0) (rows : List Row) (number : ℕ) (given : Answer) (ticket : Ticket) → Q (with_answer number given ticket) →
     (waits_for_any rows ticket ≡ false → Q ticket) → Q (answered_by_any rows number given ticket)
 failed_cases Q rows number given ticket = answer_cases Q (waits_for_any rows ticket) number given ticket
@@ -109,6 +111,7 @@ failed_number : (rows : List Row) (number : ℕ) (given : Answer) (ticket : Tick
 failed_number rows number given ticket =
     failed_cases (λ (t : Ticket). t.number ≡ ticket.number) rows number given ticket refl (λ stays. refl)
 
+-- numbers below one are below the next one
 pub below_more : (next : ℕ) (numbers : List ℕ) → All (λ (n : ℕ). n < next) numbers → All (λ (n : ℕ). n < next + 1) numbers
 below_more next numbers below =
     All-weaker (λ (n : ℕ). n < next) (λ (n : ℕ). n < next + 1) (λ (n : ℕ) under. omega (arith, under)) numbers below
@@ -143,6 +146,7 @@ asked_numbered next request book numbered =
           (left_number next (filter gone book.rows) (filter left book.rows)) book.tickets more;
     }
 
+-- the end of a job keeps the numbers of tickets in order and below the next one
 pub ended_numbered : (next : ℕ) (book : Book) → AreNumbered next book.tickets → Endings (λ (b : Book). AreNumbered (next + 1) b.tickets) next book
 ended_numbered next book numbered =
     let more : AreNumbered (next + 1) book.tickets = (numbered.0, below_more next (map number_of book.tickets) numbered.1) in record {
@@ -230,6 +234,7 @@ asked_asking number request book asking = record {
       (left_asking book.live number (filter gone book.rows) (filter left book.rows)) book.tickets asking;
 }
 
+-- the end of a job keeps the command of each open ticket live
 pub ended_asking : (number : ℕ) (book : Book) → All (IsAsking book.live) book.tickets →
     Endings (λ (b : Book). All (IsAsking b.live) b.tickets) number book
 ended_asking number book asking = record {

@@ -16,7 +16,7 @@ use Rattle.mat_model.specs.WorkState.{Debris, Job, WorkState, first_make, first_
 use Rattle.model_laws.proofs.BooksKept.{ticket_waits}
 use Rattle.model_laws.proofs.BooksLists.{any_contains, contains_any}
 use Rattle.model_laws.proofs.Idle.{none_lent}
-use Rattle.model_laws.proofs.Makes.{found_contains}
+use Rattle.model_laws.proofs.Elements.{found_contains}
 use Rattle.model_laws.proofs.Elements.{found_passes}
 
 -- something is found where an element passes

@@ -32,3 +32,8 @@ standing-tree path row =
 pub standing-stamp : (path : List (List ℕ)) (row : Row) → (standing_row path row).stamp ≡ row.stamp
 standing-stamp path row =
     elim (is_at_path path row) as (λ b. (cond b (record row { stands = true }) row).stamp ≡ row.stamp) [ true ↦ refl | false ↦ refl ]
+
+-- a use of a row keeps its stamp
+pub used-stamp : (path : List (List ℕ)) (n : ℕ) (row : Row) → (used_row path n row).stamp ≡ row.stamp
+used-stamp path n row =
+    elim (is_at_path path row) as (λ b. (cond b (record row { last = n }) row).stamp ≡ row.stamp) [ true ↦ refl | false ↦ refl ]

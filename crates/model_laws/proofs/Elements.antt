@@ -1,7 +1,7 @@
 -- Elements of a list: what is found in it, what it has, and what all of them pass.
-use Rattle.mat_path.proofs.Elements.{contains_cases}
+use Rattle.mat_path.proofs.Elements.{contains_cases, contains_first, contains_more}
 use Rattle.std.proofs.lemmas.Bool.{and_parts}
-use Rattle.std.proofs.Common.{◌≡◌, zero, suc, Bool, true, false, ◌⊎◌, inl, inr, List, [], ◌∷◌, Some, cond, refl, subst, Contains, find, arith}
+use Rattle.std.proofs.Common.{◌≡◌, Bool, true, false, inl, inr, List, [], ◌∷◌, Some, cond, refl, subst, Contains, find, arith}
 use Rattle.std.specs.List.{list_all}
 
 -- what is found passes the test
@@ -32,3 +32,12 @@ contains_all {A = A} p (x ∷ xs) y all among =
       | inl same ↦ subst (λ (z : A). p z ≡ true) same parts.0
       | inr more ↦ contains_all p xs y parts.1 more
     ]
+
+-- what is found is in the list
+pub found_contains : {A : Type 0} (q : A → Bool) (xs : List A) (y : A) → find q xs ≡ Some y → Contains xs y
+found_contains q [] y found = absurd cc
+found_contains {A = A} q (x ∷ xs) y found =
+    elim (q x) as (λ b. cond b (Some x) (find q xs) ≡ Some y → Contains (x ∷ xs) y) [
+      | true ↦ λ is. let same : x ≡ y = cc in subst (λ (z : A). Contains (x ∷ xs) z) same (contains_first x xs)
+      | false ↦ λ is. contains_more x xs y (found_contains q xs y is)
+    ] found

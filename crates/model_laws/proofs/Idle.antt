@@ -3,7 +3,8 @@ use Rattle.mat_path.proofs.Elements.{contains_cases, contains_first, contains_mo
 use Rattle.std.proofs.Common.{◌≡◌, ℕ, ◌==◌, Bool, true, false, not, ◌||◌, List, [], ◌∷◌, Option, Some, None, cond, inl, inr, refl, sym, ap, ap₂, ◌∙◌, Contains, find, filter, arith}
 use Rattle.std.specs.List.{list_any}
 use Rattle.std.specs.Option.{option_and_then, option_map, option_map_or, option_or}
-use Rattle.std.proofs.lemmas.Bool.Decides.{nat_tests}
+use Rattle.std.proofs.Math.Bool.{or-true}
+use Rattle.std.proofs.lemmas.Bool.{eq-eqb}
 use Rattle.mat_model.specs.declared.book.Book.{Book}
 use Rattle.mat_model.specs.declared.book.Row.{Row}
 use Rattle.mat_model.specs.declared.book.Ticket.{Ticket}
@@ -66,6 +67,7 @@ not_wipe work rows row path is =
     elim (is_kept_back work rows row) as (λ b. cond b None (Some (task.Make row.path row.stamp)) ≡ Some (task.Wipe path) → ⊥)
     [ true ↦ λ made. cc | false ↦ λ made. cc ] is
 
+-- what is made first for a ticket is no wipe
 pub no_wipe : (work : WorkState) (rows : List Row) (tickets : List Ticket) (path : List (List ℕ)) → first_make work rows tickets ≡ Some (task.Wipe path) → ⊥
 no_wipe work rows [] path is = cc
 no_wipe work rows (ticket ∷ tickets) path is =
@@ -85,23 +87,15 @@ no_wipe work rows (ticket ∷ tickets) path is =
         (λ b. cond b (option_and_then (make_of work rows) (cover rows ticket.asked)) None ≡ Some (task.Wipe path) → ⊥)
         [ true ↦ λ of. of_row (cover rows ticket.asked) of | false ↦ λ of. cc ] is
 
--- a number is itself
-pub itself : (n : ℕ) → (n == n) ≡ true
-itself n = grind (arith, nat_tests)
-
 -- a row's stamp is among rows that have one with it
 pub has_one : (left : List Row) (row other : Row) → Contains left other → other.stamp ≡ row.stamp → list_any (has_stamp row.stamp) left ≡ true
 has_one [] row other (k, within, at) same = absurd (omega arith)
 has_one (next ∷ left) row other among same =
     elim (contains_cases next left other among) [
       | inl one ↦ ap (λ (n : ℕ). (n == row.stamp) || list_any (has_stamp row.stamp) left) (ap (λ (r : Row). r.stamp) one ∙ same)
-          ∙ ap (λ (b : Bool). b || list_any (has_stamp row.stamp) left) (itself row.stamp)
-      | inr more ↦ ap (λ (b : Bool). (next.stamp == row.stamp) || b) (has_one left row other more same) ∙ or_true (next.stamp == row.stamp)
+          ∙ ap (λ (b : Bool). b || list_any (has_stamp row.stamp) left) (eq-eqb row.stamp row.stamp refl)
+      | inr more ↦ ap (λ (b : Bool). (next.stamp == row.stamp) || b) (has_one left row other more same) ∙ or-true (next.stamp == row.stamp)
     ]
-  where
-    or_true : (b : Bool) → (b || true) ≡ true
-    or_true true = refl
-    or_true false = refl
 
 -- no row is removed where each still has its stamp
 pub none_removed : (rows left : List Row) → ((row : Row) → Contains rows row → list_any (has_stamp row.stamp) left ≡ true) → removed_rows rows left ≡ []

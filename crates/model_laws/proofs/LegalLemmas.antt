@@ -1,6 +1,6 @@
 -- What a history that grows at its end means: its point, its rules, and the clock of its book.
-use Rattle.std.proofs.lemmas.Bool.{and_parts}
-use Rattle.std.proofs.Common.{◌≡◌, ℕ, Bool, true, List, [], ◌∷◌, ◌++◌, length, refl, sym, ap, ◌∙◌, filter, count_by, append_assoc, append-nil}
+use Rattle.mat_path.proofs.Elements.{filter_all}
+use Rattle.std.proofs.Common.{◌≡◌, ℕ, Bool, true, List, [], ◌∷◌, ◌++◌, length, refl, sym, ap, ◌∙◌, count_by, append_assoc, append-nil}
 use Rattle.std.specs.List.{list_all}
 use Rattle.std.proofs.lemmas.List.Sums.{length-filter}
 use Rattle.mat_model.specs.declared.answers.Recorded.{Recorded}
@@ -20,7 +20,7 @@ pub after_all-push : (point : Point) (entries : List Entry) (entry : Entry) →
 after_all-push point [] entry = refl
 after_all-push point (next ∷ entries) entry = after_all-push (after point next) entries entry
 
--- a rule that holds of some entries and of one more behind them
+-- a rule that is true of some entries and of one more behind them is true of all
 pub each-push : (Rule : Point → Entry → Type 0) (point : Point) (entries : List Entry) (entry : Entry) → IsEach Rule point entries →
     Rule (after_all point entries) entry → IsEach Rule point (entries ++ entry ∷ [])
 each-push Rule point [] entry each new = (new, tt)
@@ -31,20 +31,15 @@ pub history-all : (point : Point) (entries : List Entry) → (after_all point en
 history-all point [] = sym (append-nil point.history)
 history-all point (entry ∷ entries) = history-all (after point entry) entries ∙ append_assoc point.history (entry ∷ []) entries
 
--- a list all of which passes the test is kept whole
-all_kept : {A : Type 0} (p : A → Bool) (xs : List A) → list_all p xs ≡ true → filter p xs ≡ xs
-all_kept p [] all = refl
-all_kept {A = A} p (x ∷ xs) all =
-    let parts = and_parts (p x) (list_all p xs) all in
-    rw parts.0 (ap (λ (ys : List A). x ∷ ys) (all_kept p xs parts.1))
-
--- and so its length is the count
+-- the length of a list all of which passes a test is the count of those that do
 pub count_by-all : {A : Type 0} (p : A → Bool) (xs : List A) → list_all p xs ≡ true → length xs ≡ count_by p xs
-count_by-all {A = A} p xs all = sym (ap (λ (ys : List A). length ys) (all_kept p xs all)) ∙ length-filter p xs
+count_by-all {A = A} p xs all = sym (ap (λ (ys : List A). length ys) (filter_all p xs all)) ∙ length-filter p xs
 
 -- a book's first number and its moment are another one's
 pub record KeepsClock (book : Book) (other : Book) : Type 0 where
+  -- the first number is the same
   pub first : other.first ≡ book.first
+  -- the moment is the same
   pub now : other.now ≡ book.now
 
 -- a request leaves a book's first number, and its moment is the later one

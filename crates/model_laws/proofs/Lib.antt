@@ -6,7 +6,16 @@ pub mod Changes
 pub mod Makes
 pub mod LegalLemmas
 pub mod Serving
-pub mod LawLemmas
+pub mod ReadyLemmas
+pub mod HistoryLemmas
+pub mod PutRows
+pub mod TicketLemmas
+pub mod StandingLemmas
+pub mod ApartLemmas
+pub mod AnsweredLemmas
+pub mod OpenLemmas
+pub mod DeclaredLemmas
+pub mod GateLemmas
 pub mod Idle
 pub mod BooksLists
 pub mod BooksRows

@@ -1,12 +1,11 @@
 -- The row that the first make is for: it is in the book, at the task's path and under its stamp, and it doesn't stand yet.
-use Rattle.mat_path.proofs.Elements.{contains_cases, contains_first, contains_more}
+use Rattle.mat_path.proofs.Elements.{contains_cases}
 use Rattle.mat_path.proofs.Overlaps.{overlap-refl}
 use Rattle.mat_path.proofs.SameNames.{same_names-eq, same_names-refl}
 use Rattle.std.proofs.Common.{◌≡◌, ℕ, ◌==◌, Bool, true, false, ◌||◌, List, [], ◌∷◌, Some, None, cond, inl, inr, refl, sym, ap, ap₂, subst, ◌∙◌, Contains, find, arith}
 use Rattle.std.specs.List.{list_all, list_any}
 use Rattle.std.specs.Option.{option_and_then, option_map_or, option_or}
-use Rattle.std.proofs.lemmas.Bool.{and_from, and_parts, both_ways, or_parts}
-use Rattle.std.proofs.lemmas.Bool.Decides.{nat_tests}
+use Rattle.std.proofs.lemmas.Bool.{and_from, and_parts, both_ways, eq-eqb, or_parts}
 use Rattle.mat_path.specs.Names.{overlap}
 use Rattle.mat_model.specs.declared.book.Row.{Row}
 use Rattle.mat_model.specs.declared.book.Ticket.{Ticket}
@@ -16,16 +15,7 @@ use Rattle.mat_model.specs.Rows.{are_apart, covers, is_apart, is_at_path}
 use Rattle.mat_model.specs.Work.{is_declared}
 use Rattle.mat_model.specs.WorkState.{WorkState, first_make, is_debris_above, is_kept_back, is_lent, is_lent_part, lent_by, make_of, task_of, way_of}
 use Rattle.model_laws.proofs.Apart.{apart_parts}
-use Rattle.model_laws.proofs.Elements.{contains_all}
-
--- what is found is in the list
-pub found_contains : {A : Type 0} (q : A → Bool) (xs : List A) (y : A) → find q xs ≡ Some y → Contains xs y
-found_contains q [] y found = absurd cc
-found_contains {A = A} q (x ∷ xs) y found =
-    elim (q x) as (λ b. cond b (Some x) (find q xs) ≡ Some y → Contains (x ∷ xs) y) [
-      | true ↦ λ is. let same : x ≡ y = cc in subst (λ (z : A). Contains (x ∷ xs) z) same (contains_first x xs)
-      | false ↦ λ is. contains_more x xs y (found_contains q xs y is)
-    ] found
+use Rattle.model_laws.proofs.Elements.{contains_all, found_contains}
 
 -- a row that doesn't stand, at a path and under a stamp
 abbrev pub HasMake : List Row → List (List ℕ) → ℕ → Type 0
@@ -109,16 +99,12 @@ pub apart_at : (rows : List Row) (row : Row) → are_apart rows ≡ true → Con
 apart_at rows row apart among =
     find-apart (is_at_path row.path) rows row (same_names-refl row.path) (λ other at. same_names-eq other.path row.path at) apart among
 
--- a number is itself
-same_number : (n : ℕ) → (n == n) ≡ true
-same_number n = grind (arith, nat_tests)
-
 -- of rows that are apart, each is found at its path under its stamp
 pub apart_declared : (rows : List Row) (row : Row) → are_apart rows ≡ true → Contains rows row →
     find (is_declared row.path row.stamp) rows ≡ Some row
 apart_declared rows row apart among =
     find-apart (is_declared row.path row.stamp) rows row
-    (and_from (is_at_path row.path row) (row.stamp == row.stamp) (same_names-refl row.path) (same_number row.stamp))
+    (and_from (is_at_path row.path row) (row.stamp == row.stamp) (same_names-refl row.path) (eq-eqb row.stamp row.stamp refl))
     (λ other at. same_names-eq other.path row.path (and_parts (is_at_path row.path other) (other.stamp == row.stamp) at).0)
     apart among
 

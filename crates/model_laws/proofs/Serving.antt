@@ -50,18 +50,26 @@ with_ticket number command path book =
 -- place of those that overlap its path, a row is used, a ticket comes to a covering row that doesn't stand and is used, and rows that pass a test
 -- are removed
 pub record Changes (P : Book → Type 0) (number : ℕ) (request : Asked) (book : Book) : Type 0 where
+  -- it is true of the book as it was
   pub same : P book
+  -- it is true once a command that is new is live
   pub enters : (command state : ℕ) → request ≡ asked.Enter command state → is_live command book || is_waiting command book ≡ false →
       admits state book ≡ true → P (record book { live = book.live ++ command ∷ []; state = Some state })
+  -- it is true once a command that is new waits
   pub queues : (command state : ℕ) → request ≡ asked.Enter command state → is_live command book || is_waiting command book ≡ false →
       admits state book ≡ false → P (record book { waiting = book.waiting ++ record { command = command; state = state } ∷ [] })
+  -- it is true once a command without open tickets is gone, and its holds with it
   pub leaves : (command : ℕ) → request ≡ asked.Leave command → (count_by (is_open_of command) book.tickets == 0) ≡ true →
       P (record (with_gate (depart command book).book book) { holds = filter (is_hold_of_other command) book.holds })
+  -- it is true once a row is put in the place of those that overlap its path
   pub puts : (command : ℕ) (path : List (List ℕ)) (tree : List Flat) → declares request ≡ Some path →
       P (replace_rows number command path (new_row number book.now path tree) book).book
+  -- it is true once a row is used, with a hold on a path
   pub uses : (at : List (List ℕ)) (command : ℕ) (path : List (List ℕ)) → P (used_at at command path book)
+  -- it is true once a ticket has come to a row that lies, and that row is used
   pub asks : (row : Row) (command : ℕ) (path : List (List ℕ)) → is_live command book ≡ true → cover book.rows path ≡ Some row → row.stands ≡ false →
       P (with_ticket number command path (used_at row.path command path book))
+  -- it is true once the rows that pass a test are removed, each of which the request disturbs
   pub removes : (gone left : Row → Bool) → ((row : Row) → left row ≡ not (gone row)) → ((row : Row) → gone row ≡ true → disturbs request row ≡ true) →
       P (without_rows number (filter gone book.rows) (filter left book.rows) book)
 
@@ -159,9 +167,12 @@ asked_beside P number request book each = record {
 -- a property of the book after the end of a job, or after its begin was refused: the book is left alone, a row comes to stand and the tickets on it
 -- are answered, or the tickets on some rows are answered with a failure
 pub record Endings (P : Book → Type 0) (number : ℕ) (book : Book) : Type 0 where
+  -- it is true of the book as it was
   pub same : P book
+  -- it is true once a row stands and the tickets on it are answered
   pub stands : (path : List (List ℕ)) (stamp : ℕ) (row : Row) → find (is_declared path stamp) book.rows ≡ Some row →
       P (make_ended number path row outcome.Made book)
+  -- it is true once the tickets on some rows are answered with a failure
   pub fails : (some : List Row) (given : Answer) → P (with_answers some number given book)
 
 made_by : (P : Book → Type 0) (number : ℕ) (path : List (List ℕ)) (stamp : ℕ) (out : Outcome) (how : Recorded) (book : Book) →
@@ -175,6 +186,7 @@ made_by P number path stamp (outcome.Corrupt wanted other) how book endings (Som
 made_by P number path stamp (outcome.Fault note) how book endings (Some row) found = endings.fails (row ∷ []) (answer.Fault note)
 made_by P number path stamp outcome.NoMemory how book endings (Some row) found = endings.fails (row ∷ []) answer.NoMemory
 
+-- what is true in each case is true after the end of a job
 pub ended_by : (P : Book → Type 0) (number : ℕ) (task : Task) (out : Outcome) (how : Recorded) (book : Book) → Endings P number book →
     P (finish number task out how book).book
 ended_by P number (task.Make path stamp) out how book endings =
@@ -207,15 +219,20 @@ left_tickets number path new rows tickets =
 -- the rows and the tickets after a request, case by case: both are left alone, a ticket comes to rows that are used, rows are used, a row is put
 -- in the place of those that overlap its path, and rows that pass a test are removed
 pub record Cases (R : List Row → List Ticket → Type 0) (number : ℕ) (request : Asked) (rows : List Row) (tickets : List Ticket) : Type 0 where
+  -- it is true of the rows and the tickets as they were
   pub same : R rows tickets
+  -- it is true once rows are used and tickets have come
   pub asks : (path : List (List ℕ)) (n : ℕ) (more : List Ticket) → R (used path n rows) (tickets ++ more)
+  -- it is true once rows are used
   pub uses : (path : List (List ℕ)) (n : ℕ) → R (used path n rows) tickets
+  -- it is true once a row is put in the place of those that overlap its path
   pub puts : (path : List (List ℕ)) (new : Row) → new.path ≡ path → declares request ≡ Some path →
       R (put_row new (filter (is_clear_of path) rows)) (left_tickets number path new rows tickets)
+  -- it is true once the rows that pass a test are removed, each of which the request disturbs
   pub removes : (gone left : Row → Bool) → ((row : Row) → left row ≡ not (gone row)) → ((row : Row) → gone row ≡ true → disturbs request row ≡ true) →
       R (filter left rows) (map (left_ticket number (filter gone rows) (filter left rows)) tickets)
 
--- what holds in each case holds after a request
+-- what is true in each case is true of the rows and the tickets after a request
 pub served_by : (R : List Row → List Ticket → Type 0) (number moment : ℕ) (context : RequestContext) (request : Asked) (book : Book) →
     Cases R number request book.rows book.tickets → Leaves R (serve number moment context request book)
 served_by R number moment context request book cases =
@@ -233,11 +250,15 @@ served_by R number moment context request book cases =
 -- the rows and the tickets after the end of a job: both are left alone, a row comes to stand and the tickets on it are answered, or the tickets
 -- on some rows are answered with a failure
 pub record Ends (R : List Row → List Ticket → Type 0) (number : ℕ) (rows : List Row) (tickets : List Ticket) : Type 0 where
+  -- it is true of the rows and the tickets as they were
   pub same : R rows tickets
+  -- it is true once a row stands and the tickets on it are answered
   pub stands : (path : List (List ℕ)) (row : Row) →
       R (map (standing_row path) rows) (map (answered_by row number (answer.Ready row.stamp row.sum)) tickets)
+  -- it is true once the tickets on some rows are answered with a failure
   pub fails : (some : List Row) (given : Answer) → R rows (map (answered_by_any some number given) tickets)
 
+-- what is true in each case is true of the rows and the tickets after the end of a job
 pub finished_by : (R : List Row → List Ticket → Type 0) (number : ℕ) (task : Task) (out : Outcome) (how : Recorded) (book : Book) →
     Ends R number book.rows book.tickets → Leaves R (finish number task out how book)
 finished_by R number task out how book ends =

@@ -9,7 +9,7 @@ use Rattle.mat_tree.specs.Nodes.{at_root, what_node, below_all}
 use Rattle.mat_tree.specs.Sums.{dir_named, dir_part, file_part, link_part, message_by}
 use Rattle.mat_tree.specs.Trees.{ascends}
 use Rattle.reapi_dir.specs.Children.{children_message_by, dir_child_by, file_child, link_child}
-use Rattle.mat_tree.proofs.Families.{as_flat, below_name, children_are, founds, IsFound}
+use Rattle.mat_tree.proofs.Families.{as_flat, below_name, children_are, each_is_found, IsFound}
 
 files_are : (cs : List Child) → flat_map file_part (map as_flat cs) ≡ flat_map file_child cs
 files_are [] = refl
@@ -32,5 +32,5 @@ pub message_is : (digest : List Flat → Digest) (w : What) (cs : List Child) �
 message_is digest w cs e =
     ap (λ t. flat_map file_part t ++ flat_map (dir_part digest (at_root w ∷ below_all cs)) t ++ flat_map link_part t) (children_are cs)
     ∙ ap (λ t. t ++ flat_map (dir_part digest (at_root w ∷ below_all cs)) (map as_flat cs) ++ flat_map link_part (map as_flat cs)) (files_are cs)
-    ∙ ap (λ t. flat_map file_child cs ++ t ++ flat_map link_part (map as_flat cs)) (dirs_are digest w cs cs e (founds cs e))
+    ∙ ap (λ t. flat_map file_child cs ++ t ++ flat_map link_part (map as_flat cs)) (dirs_are digest w cs cs e (each_is_found cs e))
     ∙ ap (λ t. flat_map file_child cs ++ flat_map (dir_child_by digest) cs ++ t) (links_are cs)

@@ -1,4 +1,5 @@
 -- What a list of entries has at each path, with one more, or with those of one part alone.
+use Rattle.mat_path.proofs.Elements.{filter_all}
 use Rattle.mat_path.proofs.PathLemmas.{prefix-append}
 use Rattle.mat_path.proofs.SameNames.{is_prefix-Decides, same_names-Decides, same_names-behind, same_names-sym}
 use Rattle.std.proofs.Common.{◌≡◌, ℕ, Bool, true, false, cond, not, List, [], ◌∷◌, ◌++◌, length, drop, refl, ap, sym, ◌∙◌, ◌<◌, ◌+◌, take, get_or}
@@ -11,7 +12,7 @@ use Rattle.mat_path.specs.Names.{same_names, is_prefix}
 use Rattle.mat_tree.specs.Parts.{below, without, with_node, replaced}
 use Rattle.region_port.specs.Entries.{latest, content_of, node_of, is_entry_at, path_of_entry, is_within, is_outside}
 use Rattle.region_port.specs.declared.entry.Entry.{Entry}
-use Rattle.region_port.proofs.Latest.{latest-append, latest-push, latest-filter, filter_all, option_or-none}
+use Rattle.region_port.proofs.Latest.{latest-append, latest-push, latest-filter, option_or-none}
 
 -- an entry more is the node at its path
 pub content_of-push : (entries : List Entry) (entry : Entry) (path : List (List ℕ)) → content_of (entries ++ entry ∷ []) path ≡ cond (same_names entry.path path) (Some (node_of entry)) (content_of entries path)
@@ -41,6 +42,7 @@ content_of-within place entries path =
     by true = refl
     by false = refl
 
+-- below a path the entries at or below it have all that the whole list has there
 pub below-within : (place : List (List ℕ)) (entries : List Entry) → below place (content_of (filter (is_within path_of_entry place) entries)) ≡ below place (content_of entries)
 below-within place entries =
     let each : (q : List (List ℕ)) → below place (content_of (filter (is_within path_of_entry place) entries)) q ≡ below place (content_of entries) q =
@@ -59,6 +61,7 @@ content_of-outside place entries =
     by q true = refl
     by q false = refl
 
+-- at a path two lists have what the second one has there, or else what the first one has
 pub content_of-append : (xs ys : List Entry) (path : List (List ℕ)) → content_of (xs ++ ys) path ≡ option_or (content_of ys path) (content_of xs path)
 content_of-append xs ys path = ap (option_map node_of) (latest-append (is_entry_at path) xs ys) ∙ mapped (latest (is_entry_at path) ys) (latest (is_entry_at path) xs)
   where

@@ -3,10 +3,10 @@ use Rattle.std.proofs.Common.{◌≡◌, Bool, true, false, ◌&&◌, cond, List
 use Rattle.std.specs.Prelude.{Option, Some, None}
 use Rattle.std.specs.List.{filter, list_all}
 use mathlib.Core.Bool.{true≢false}
-use Rattle.std.proofs.lemmas.List.Folds.{list_all-append}
 use Rattle.std.specs.Option.{option_or}
 use Rattle.region_port.specs.Entries.{latest}
 
+-- an answer, or else nothing, is the answer
 pub option_or-none : {X : Type 0} (a : Option X) → option_or a None ≡ a
 option_or-none None = refl
 option_or-none (Some x) = refl
@@ -15,6 +15,7 @@ option_or-assoc : {X : Type 0} (a b c : Option X) → option_or (option_or a b) 
 option_or-assoc None b c = refl
 option_or-assoc (Some x) b c = refl
 
+-- the last element of two lists that passes is that of the second one, or else that of the first
 pub latest-append : {X : Type 0} (p : X → Bool) (xs ys : List X) → latest p (xs ++ ys) ≡ option_or (latest p ys) (latest p xs)
 latest-append p [] ys = sym (option_or-none (latest p ys))
 latest-append p (x ∷ xs) ys =
@@ -49,15 +50,6 @@ latest-filter {X} test p b same (x ∷ xs) = apart (p x) ∙ by (p x) (test x) b
     by false false true f l s e = e ∙ sym (option_or-none l)
     by false false false f l s e = e
 
--- a list of what passes is its own filter
-pub filter_all : {X : Type 0} (p : X → Bool) (xs : List X) → list_all p xs ≡ true → filter p xs ≡ xs
-filter_all p [] e = refl
-filter_all {X} p (x ∷ xs) e = by (p x) e (filter_all p xs)
-  where
-    by : (b : Bool) → (b && list_all p xs) ≡ true → (list_all p xs ≡ true → filter p xs ≡ xs) → cond b (x ∷ filter p xs) (filter p xs) ≡ x ∷ xs
-    by true h f = ap (λ l. x ∷ l) (f h)
-    by false h f = absurd (true≢false (sym h))
-
 -- what a filter leaves passes
 pub all_filter : {X : Type 0} (p : X → Bool) (xs : List X) → list_all p (filter p xs) ≡ true
 all_filter p [] = refl
@@ -66,6 +58,3 @@ all_filter {X} p (x ∷ xs) = by (p x) refl (all_filter p xs)
     by : (b : Bool) → p x ≡ b → list_all p (filter p xs) ≡ true → list_all p (cond b (x ∷ filter p xs) (filter p xs)) ≡ true
     by true h e = ap (λ b. b && list_all p (filter p xs)) h ∙ e
     by false h e = e
-
-pub all_push : {X : Type 0} (p : X → Bool) (xs : List X) (x : X) → list_all p xs ≡ true → p x ≡ true → list_all p (xs ++ x ∷ []) ≡ true
-all_push p xs x e h = list_all-append p xs (x ∷ []) ∙ ap (λ b. b && (p x && true)) e ∙ ap (λ b. b && true) h

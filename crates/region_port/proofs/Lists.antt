@@ -10,6 +10,7 @@ pub all_of_push : {X : Type 0} (segments : List (Vec X Global)) (segment : Vec X
 all_of_push [] segment = append-nil segment.items
 all_of_push (first ∷ segments) segment = ap (λ rest. first.items ++ rest) (all_of_push segments segment) ∙ sym (append_assoc first.items (all_of segments) segment.items)
 
+-- a segment behind the others adds its length to the count
 pub count_of_push : {X : Type 0} (segments : List (Vec X Global)) (segment : Vec X Global) → count_of (segments ++ segment ∷ []) ≡ count_of segments + vec_len segment
 count_of_push [] segment = omega arith
 count_of_push (first ∷ segments) segment = omega (arith, count_of_push segments segment)

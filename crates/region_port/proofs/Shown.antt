@@ -1,4 +1,5 @@
 -- Lists of nodes, one entry more.
+use Rattle.mat_path.proofs.JoinLemmas.{joined-tail}
 use Rattle.mat_path.proofs.SameNames.{is_prefix-Decides, same_names-Decides, same_names-sym}
 use Rattle.mat_tree.proofs.Ascending.{after_head}
 use Rattle.std.proofs.Common.{◌≡◌, ℕ, ◌+◌, ◌≤◌, Bool, true, false, ◌&&◌, cond, List, [], ◌∷◌, ◌++◌, length, drop, map, refl, ap, sym, ◌∙◌, arith, append_assoc, length-append, Bor, take, get_or, ◌<◌}
@@ -29,18 +30,11 @@ use Rattle.region_port.specs.Listing.{flat_from, flats_of, shown}
 use Rattle.region_port.specs.Lists.{all_of}
 use Rattle.region_port.proofs.Content.{content_of-push, content_of-append}
 
-longer : (x rest : List ℕ) → length rest ≤ length (x ++ 47 ∷ rest)
-longer x rest = omega (arith, length-append x (47 ∷ rest))
-
--- the names behind others are no longer than all of them
-joined-tail : (x : List ℕ) (q : List (List ℕ)) → length (joined q) ≤ length (joined (x ∷ q))
-joined-tail x [] = omega arith
-joined-tail x (y ∷ q) = longer x (joined (y ∷ q))
-
 joined-behind : (p q : List (List ℕ)) → length (joined q) ≤ length (joined (p ++ q))
 joined-behind [] q = omega arith
 joined-behind (x ∷ p) q = omega (arith, joined-behind p q, joined-tail x (p ++ q))
 
+-- the names of a rel behind some of its first are a rel
 pub is_rel-behind : (p q : List (List ℕ)) → is_rel (p ++ q) ≡ true → is_rel q ≡ true
 is_rel-behind p q e =
     let all = p ++ q in

@@ -1,4 +1,4 @@
-use Rattle.model_laws.proofs.LawLemmas.{finish_true}
+use Rattle.model_laws.proofs.AnsweredLemmas.{finish_true}
 use Rattle.model_laws.proofs.laws.finish_answers_truly.Goals as goal
 
 pub returns : goal.returns

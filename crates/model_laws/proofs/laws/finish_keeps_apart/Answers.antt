@@ -1,4 +1,4 @@
-use Rattle.model_laws.proofs.LawLemmas.{finish_apart}
+use Rattle.model_laws.proofs.ApartLemmas.{finish_apart}
 use Rattle.model_laws.proofs.laws.finish_keeps_apart.Goals as goal
 
 pub returns : goal.returns

@@ -1,4 +1,4 @@
-use Rattle.model_laws.proofs.LawLemmas.{finish_stands}
+use Rattle.model_laws.proofs.StandingLemmas.{finish_stands}
 use Rattle.model_laws.proofs.laws.finish_keeps_standing.Goals as goal
 
 pub returns : goal.returns

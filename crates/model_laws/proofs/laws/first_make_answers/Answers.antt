@@ -1,5 +1,5 @@
-use Rattle.model_laws.proofs.LawLemmas.{finish_first}
+use Rattle.model_laws.proofs.OpenLemmas.{finish_fewer_open}
 use Rattle.model_laws.proofs.laws.first_make_answers.Goals as goal
 
 pub returns : goal.returns
-returns c = finish_first
+returns c = finish_fewer_open

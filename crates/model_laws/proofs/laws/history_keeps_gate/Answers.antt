@@ -1,4 +1,4 @@
-use Rattle.model_laws.proofs.LawLemmas.{history_gated}
+use Rattle.model_laws.proofs.GateLemmas.{history_gated}
 use Rattle.model_laws.proofs.laws.history_keeps_gate.Goals as goal
 
 pub returns : goal.returns

@@ -1,4 +1,4 @@
-use Rattle.model_laws.proofs.LawLemmas.{history_stands}
+use Rattle.model_laws.proofs.StandingLemmas.{history_stands}
 use Rattle.model_laws.proofs.laws.history_keeps_standing.Goals as goal
 
 pub returns : goal.returns

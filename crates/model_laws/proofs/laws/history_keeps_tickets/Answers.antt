@@ -1,4 +1,4 @@
-use Rattle.model_laws.proofs.LawLemmas.{history_kept}
+use Rattle.model_laws.proofs.TicketLemmas.{history_kept}
 use Rattle.model_laws.proofs.laws.history_keeps_tickets.Goals as goal
 
 pub returns : goal.returns

@@ -1,4 +1,4 @@
-use Rattle.model_laws.proofs.LawLemmas.{serve_gated}
+use Rattle.model_laws.proofs.GateLemmas.{serve_gated}
 use Rattle.model_laws.proofs.laws.serve_keeps_gate.Goals as goal
 
 pub returns : goal.returns

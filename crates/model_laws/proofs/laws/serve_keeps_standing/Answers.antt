@@ -1,4 +1,4 @@
-use Rattle.model_laws.proofs.LawLemmas.{serve_stands}
+use Rattle.model_laws.proofs.StandingLemmas.{serve_stands}
 use Rattle.model_laws.proofs.laws.serve_keeps_standing.Goals as goal
 
 pub returns : goal.returns

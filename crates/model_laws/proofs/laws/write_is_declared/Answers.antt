@@ -1,4 +1,4 @@
-use Rattle.model_laws.proofs.LawLemmas.{write_declared}
+use Rattle.model_laws.proofs.DeclaredLemmas.{write_declared}
 use Rattle.model_laws.proofs.laws.write_is_declared.Goals as goal
 
 pub returns : goal.returns

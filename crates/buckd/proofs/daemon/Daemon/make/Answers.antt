@@ -9,7 +9,8 @@ use Rattle.model_laws.proofs.Makes.{first_make_found}
 use Rattle.buckd.specs.declared.daemon.Daemon.{Daemon}
 use Rattle.buckd.specs.Run.{entry_at, idle}
 use Rattle.buckd.specs.Sound.{KeepsBook}
-use Rattle.buckd.proofs.Kept.{kept-with, on_ok}
+use Rattle.mat_tree.proofs.Joins.{on_ok}
+use Rattle.buckd.proofs.Kept.{kept-with}
 use Rattle.buckd.proofs.MadeLemmas.{acts-begun, book-kept, made-point, made-ready, made-scene}
 use Rattle.buckd.proofs.Stepping.{begun}
 use Rattle.buckd.proofs.daemon.Daemon.make.Goals as goal

@@ -3,7 +3,7 @@ use Rattle.mat_digest.specs.declared.digest.Digest.{Digest}
 use Rattle.mat_digest.specs.Digests.{digest_of}
 use Rattle.script_lang.specs.declared.told.Said.TheVariants as said
 use Rattle.buckd.specs.Texts.{said_line}
-use Rattle.buckd.proofs.Kept.{on_ok}
+use Rattle.mat_tree.proofs.Joins.{on_ok}
 use Rattle.buckd.proofs.StoreLemmas.{told-stored}
 use Rattle.buckd.proofs.daemon.Daemon.tell_blob.Goals as goal
 

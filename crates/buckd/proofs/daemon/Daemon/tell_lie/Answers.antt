@@ -1,5 +1,5 @@
 use Rattle.std.proofs.Common.{refl}
-use Rattle.buckd.proofs.Kept.{on_ok}
+use Rattle.mat_tree.proofs.Joins.{on_ok}
 use Rattle.buckd.proofs.StoreLemmas.{told-stored}
 use Rattle.buckd.proofs.daemon.Daemon.tell_lie.Goals as goal
 

@@ -2,7 +2,8 @@ use Rattle.std.proofs.Common.{◌≡◌, ℕ, ◌+◌, List, ◌++◌, length, c
 use Rattle.buckd.specs.Daemon.{book_of}
 use Rattle.buckd.specs.Run.{asked_of, is_not_yet}
 use Rattle.buckd.specs.Sound.{IsPast}
-use Rattle.buckd.proofs.Kept.{on_ok, told-request, sound-stepped}
+use Rattle.mat_tree.proofs.Joins.{on_ok}
+use Rattle.buckd.proofs.Kept.{told-request, sound-stepped}
 use Rattle.buckd.proofs.daemon.Daemon.tell_request.Goals as goal
 
 pub returns-clause-told : goal.returns-clause-told

@@ -2,7 +2,8 @@ use Rattle.std.proofs.Common.{List, ap, ◌++◌, ◌∙◌}
 use Rattle.mat_tree.specs.declared.flat.Flat.{Flat}
 use Rattle.script_lang.specs.declared.told.Said.TheVariants as said
 use Rattle.buckd.specs.Texts.{said_line}
-use Rattle.buckd.proofs.Kept.{on_ok, told-show}
+use Rattle.mat_tree.proofs.Joins.{on_ok}
+use Rattle.buckd.proofs.Kept.{told-show}
 use Rattle.buckd.proofs.daemon.Daemon.tell_show.Goals as goal
 
 pub returns : goal.returns

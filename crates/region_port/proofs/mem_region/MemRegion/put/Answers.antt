@@ -7,7 +7,7 @@ use Rattle.mat_tree.specs.Parts.{below}
 use Rattle.region_port.specs.Entries.{is_within, path_of_entry, content_of}
 use Rattle.region_port.specs.declared.entry.Entry.{Entry}
 use Rattle.region_port.proofs.Content.{with_node-push}
-use Rattle.region_port.proofs.Latest.{all_push}
+use Rattle.mat_path.proofs.Elements.{all_push}
 use Rattle.region_port.proofs.mem_region.MemRegion.put.Goals as goal
 
 pub invariant_of-self-2 : goal.invariant_of-self-2
