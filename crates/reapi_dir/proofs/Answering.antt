@@ -14,13 +14,16 @@ pub are_bytes : (xs : List ℕ) → ((i : ℕ) → Fits w8 (get_or xs i 0)) → 
 are_bytes xs h i = omega (arith, h i)
 
 module _ (bytes : List ℕ) where
+  -- what reading all of the bytes answers
   abbrev pub reading : Result DirMessage DirRefusal
   reading = message_read (length bytes) bytes
 
+  -- a message that reading gave is one that the bytes spell
   pub answer_spells : (r : Result DirMessage DirRefusal) → IsBytes bytes → IfOk r (λ m. reading ≡ Ok m) → IfOk r (λ m. Spells bytes m)
   answer_spells (Ok m) h read = message_spells bytes m (length bytes) h read
   answer_spells (Err e) h read = tt
 
+  -- where the bytes spell a message, an answer is that message or want of memory
   pub answer_whole : (r : Result DirMessage DirRefusal) → length bytes < 2 ^ 64 → IfOk r (λ m. reading ≡ Ok m)
       → IfErr r (λ e. (e ≡ refusal.NoMemory) ⊎ (reading ≡ Err e)) → (message : DirMessage) → Spells bytes message
       → MatchResult r (λ read. read ≡ message) (λ e. e ≡ refusal.NoMemory)
@@ -32,15 +35,18 @@ module _ (bytes : List ℕ) where
       let back = message_back bytes message (length bytes) spells short in
       cc (fault, back)
 
+  -- an answer that is a message comes where no fault stands, and a refusal is the first fault or want of memory
   pub answer_exact : (r : Result DirMessage DirRefusal) → IfOk r (λ m. reading ≡ Ok m) → IfErr r (λ e. (e ≡ refusal.NoMemory) ⊎ (reading ≡ Err e))
       → MatchResult r (λ m. dir_refusal bytes ≡ None) (λ e. (e ≡ refusal.NoMemory) ⊎ (dir_refusal bytes ≡ Some e))
   answer_exact (Ok m) read fault = ap refusal_in read
   answer_exact (Err e) read (inl memory) = inl memory
   answer_exact (Err e) read (inr fault) = inr (ap refusal_in fault)
 
+  -- bytes that spell a message have no fault
   pub no_refusal : (message : DirMessage) → length bytes < 2 ^ 64 → Spells bytes message → dir_refusal bytes ≡ None
   no_refusal message short spells = ap refusal_in (message_back bytes message (length bytes) spells short)
 
+  -- bytes that have no fault spell a message
   pub message_there : IsBytes bytes → dir_refusal bytes ≡ None → (message : DirMessage) × Spells bytes message
   message_there h none = there reading refl none
     where
@@ -48,6 +54,7 @@ module _ (bytes : List ℕ) where
       there (Ok m) e none = (m, message_spells bytes m (length bytes) h e)
       there (Err x) e none = cc
 
+  -- bytes spell at most one message
   pub one_message : (first second : DirMessage) → length bytes < 2 ^ 64 → Spells bytes first → Spells bytes second → first ≡ second
   one_message first second short a b =
       let read_a = message_back bytes first (length bytes) a short in

@@ -27,9 +27,10 @@ dirs_are digest w all (c ∷ cs) e f =
     (below_name w all c e f.0)
     ∙ ap (λ t. dir_child_by digest c ++ t) (dirs_are digest w all cs e f.1)
 
-pub message_is : (digest : List Flat → Digest) (w : What) (cs : List Child) → ascends (below_all cs) ≡ true
+-- the message of a flat list is that of the children of its root
+pub message_is_of_children : (digest : List Flat → Digest) (w : What) (cs : List Child) → ascends (below_all cs) ≡ true
     → message_by digest (at_root w ∷ below_all cs) ≡ children_message_by digest cs
-message_is digest w cs e =
+message_is_of_children digest w cs e =
     ap (λ t. flat_map file_part t ++ flat_map (dir_part digest (at_root w ∷ below_all cs)) t ++ flat_map link_part t) (children_are cs)
     ∙ ap (λ t. t ++ flat_map (dir_part digest (at_root w ∷ below_all cs)) (map as_flat cs) ++ flat_map link_part (map as_flat cs)) (files_are cs)
     ∙ ap (λ t. flat_map file_child cs ++ t ++ flat_map link_part (map as_flat cs)) (dirs_are digest w cs cs e (each_is_found cs e))

@@ -12,12 +12,12 @@ use Rattle.reapi_dir.specs.SumMessage.{first_name}
 
 -- ---- lists
 
--- what follows of each element
+-- what follows of each element, by what is true of it
 pub all_follow : {X : Type 0} (P Q : X → Type 0) → ((x : X) → P x → Q x) → (xs : List X) → AllByRecursion P xs → AllByRecursion Q xs
 all_follow P Q step [] all = tt
 all_follow P Q step (x ∷ xs) (first, rest) = (step x first, all_follow P Q step xs rest)
 
--- what holds of each element that passes a test
+-- what is true of each element that passes a test, by what is true of each element
 pub all_passing : {X : Type 0} (P Q : X → Type 0) (p : X → Bool) → ((x : X) → p x ≡ true → P x → Q x) → (xs : List X) → AllByRecursion P xs
     → AllByRecursion Q (filter p xs)
 all_passing P Q p step [] all = tt
@@ -27,7 +27,7 @@ all_passing {X} P Q p step (x ∷ xs) (first, rest) = by (p x) refl (all_passing
     by true e more = (step x e first, more)
     by false e more = more
 
--- a rel of one name
+-- a rel of one name is the list of that name
 pub single_is : (rel : List (List ℕ)) → is_single rel ≡ true → rel ≡ first_name rel ∷ []
 single_is [] e = cc
 single_is (name ∷ []) e = refl

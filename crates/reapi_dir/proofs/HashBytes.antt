@@ -29,16 +29,17 @@ hash_bytes : (bytes : List ℕ) → IsBytes (sha256 bytes)
 unfolding sha256
 hash_bytes bytes = words_bytes (final_hash initial_hash_256 bytes) 8
 
--- the digest of any bytes has such a hash
+-- the hash in the digest of any bytes is 32 bytes
 pub digest_hash : (bytes : List ℕ) → length (digest_of bytes).hash ≡ 32
 unfolding digest_of
 digest_hash bytes = length-sha256 bytes
 
--- and is one, where 64 bits hold how many they are
+-- the digest of bytes is one, where how many they are fits 64 bits
 pub is_digest : (bytes : List ℕ) → length bytes < 2 ^ 64 → IsDigest (digest_of bytes)
 unfolding digest_of
 is_digest bytes short = record { hash_len = length-sha256 bytes; hash_bytes = hash_bytes bytes; size_fits = short }
 
+-- the size in a digest is how many bytes it was made of
 pub digest_size : (bytes : List ℕ) → (digest_of bytes).size ≡ length bytes
 unfolding digest_of
 digest_size bytes = refl

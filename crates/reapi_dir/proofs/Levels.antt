@@ -17,15 +17,15 @@ use Rattle.mat_tree.specs.Sums.{dir_digest, dir_named, sum_of}
 use Rattle.mat_tree.specs.Trees.{ascends}
 use Rattle.mat_tree.proofs.Folds.{below_dir_out, what_dir}
 use Rattle.reapi_dir.specs.Children.{children_message, dir_child}
-use Rattle.reapi_dir.proofs.Children.{message_is}
+use Rattle.reapi_dir.proofs.Children.{message_is_of_children}
 use Rattle.reapi_dir.proofs.FlatLevels.{digest_is_of_message}
 use Rattle.mat_tree.proofs.Orders.{child_order, dir_order}
 
--- the digest of a directory's message, from its children
+-- the digest of a directory's message is that of the message of its children
 pub dir_digest_is : (w : What) (cs : List Child) → ascends (below_all cs) ≡ true → dir_digest (at_root w ∷ below_all cs) ≡ digest_of (children_message cs)
-dir_digest_is w cs e = digest_is_of_message (at_root w ∷ below_all cs) ∙ ap digest_of (message_is dir_digest w cs e)
+dir_digest_is w cs e = digest_is_of_message (at_root w ∷ below_all cs) ∙ ap digest_of (message_is_of_children dir_digest w cs e)
 
--- the field of a child that is a directory
+-- the field with the digest of a directory's message is the field of that child
 pub dir_field_is : (c : Child) (cs : Children) (list : List Child) (digest : Digest) → (out-Child c).node ≡ variant.Dir cs → list ≡ (out-Children cs).list
     → ascends (below_child c) ≡ true → digest ≡ digest_of (children_message list) → dir_field (out-Child c).name digest ≡ dir_child c
 dir_field_is c cs list digest e f up is =
@@ -34,7 +34,7 @@ dir_field_is c cs list digest e f up is =
     = is ∙ sym (dir_digest_is what.Dir list (dir_order node cs list e f (child_order c up))) ∙ ap dir_digest (sym (below_dir_out node cs list e f)) in
     ap (dir_field (out-Child c).name) same ∙ ap (dir_named (out-Child c).name (dir_digest (below_node node))) (sym (what_dir node cs e))
 
--- the sum of a tree whose root is a directory
+-- the kind and the digest of the message of its children are the sum of a tree whose root is a directory
 pub sum_dir : (n : Node) (cs : Children) (list : List Child) (nodes : List Flat) (digest : Digest) → n ≡ variant.Dir cs → list ≡ (out-Children cs).list
     → below_node n ≡ nodes → ascends nodes ≡ true → digest ≡ digest_of (children_message list)
     → (let sum : Sum = record { kind = kind.Dir; digest = digest } in sum) ≡ sum_of nodes

@@ -25,6 +25,7 @@ at_end : {T : Type 0} (nodes : List T) (node : T) → slice_get (nodes ++ node �
 at_end [] node = refl
 at_end (x ∷ nodes) node = at_end nodes node
 
+-- the newest name of a list is that of the node that was added last
 pub newest_more : {T : Type 0} (name : T → List ℕ) (nodes : List T) (node : T) → newest name (nodes ++ node ∷ []) ≡ Some (name node)
 newest_more {T} name nodes node =
     let last : length (nodes ++ node ∷ []) - 1 ≡ length nodes = omega (arith, length-append nodes (node ∷ [])) in
@@ -41,12 +42,12 @@ pub record Listed {T : Type 0} (name : T → List ℕ) (IsField : List ℕ → T
   pub few : length more ≤ room
 
 module _ {T : Type 0} (name : T → List ℕ) (IsField : List ℕ → T → Type 0) (earlier : List (List ℕ)) (key : ℕ) (next : List T → ℕ → List ℕ → Read T) where
-  -- what the next node is read from
+  -- what is read as the next node is its field, and its name is new
   abbrev pub NextSpells : Type 0
   NextSpells = (nodes : List T) (end : ℕ) (bytes : List ℕ) (node : T) (rest : List ℕ) → IsBytes bytes → next nodes end bytes ≡ Ok (node, rest)
       → (field : List ℕ) × (bytes ≡ field ++ rest) × IsField field node × (is_new (newest name nodes) earlier (name node) ≡ true)
 
-  -- what is read from a node's field
+  -- the field of a node with a new name is read as that node
   abbrev pub NextBack : Type 0
   NextBack = (nodes : List T) (end : ℕ) (field : List ℕ) (node : T) (rest : List ℕ) → IsField field node → is_new (newest name nodes) earlier (name node) ≡ true
       → length field < 2 ^ 64 → next nodes end (field ++ rest) ≡ Ok (node, rest)
@@ -73,6 +74,7 @@ module _ {T : Type 0} (name : T → List ℕ) (IsField : List ℕ → T → Type
     few = omega (arith, l.few);
   }
 
+  -- a list that was read has been spelled: the front of the bytes are its fields, its names are new, and they are few enough
   pub nodes_spell : NextSpells → (room : ℕ) (nodes all : List T) (end : ℕ) (bytes rest : List ℕ) → IsBytes bytes
       → nodes_read key next room nodes end bytes ≡ Ok (all, rest) → Listed name IsField earlier room nodes all bytes rest
   unfolding nodes_read
@@ -89,6 +91,7 @@ module _ {T : Type 0} (name : T → List ℕ) (IsField : List ℕ → T → Type
         | inr same ↦ listed_end (suc room) nodes all bytes rest (ap (λ (p : List T × List ℕ). p.0) same) (ap (λ (p : List T × List ℕ). p.1) same)
       ]
 
+  -- the fields of nodes with new names, as few as there is room for, are read as these nodes
   pub nodes_back : NextBack → BeginsField → (more : List T) (room : ℕ) (nodes : List T) (end : ℕ) (front rest : List ℕ) → Fields IsField front more
       → all_new earlier (newest name nodes) (map name more) ≡ true → length more ≤ room → length front < 2 ^ 64 → begins_with key rest ≡ false
       → nodes_read key next room nodes end (front ++ rest) ≡ Ok (nodes ++ more, rest)
@@ -116,7 +119,7 @@ module _ {T : Type 0} (name : T → List ℕ) (IsField : List ℕ → T → Type
 abbrev pub BeginsOther : {T : Type 0} → (List ℕ → T → Type 0) → ℕ → Type 0
 BeginsOther {T} IsField other = (field : List ℕ) (node : T) → IsField field node → (more : List ℕ) × (field ≡ other ∷ more)
 
--- where a list of other fields comes, or nothing
+-- a key does not begin bytes that are fields with another key, where it does not begin what is behind them
 pub begins_other : {T : Type 0} (IsField : List ℕ → T → Type 0) (other key : ℕ) → BeginsOther IsField other → nat_eq other key ≡ false
     → (more : List T) (front rest : List ℕ) → Fields IsField front more → begins_with key rest ≡ false → begins_with key (front ++ rest) ≡ false
 begins_other IsField other key begins apart [] front rest none h = rw none h

@@ -9,6 +9,7 @@ use Rattle.mat_tree.specs.Messages.{bytes_field, digest_message, number_field, v
 use Rattle.mat_tree.proofs.Varints.{varint_one}
 use Rattle.reapi_dir.specs.Lengths.{field_length, number_length}
 
+-- how many bytes a field of bytes has
 pub length_field : (number : ℕ) (bytes : List ℕ) → number < 15 → length (bytes_field number bytes) ≡ field_length (length bytes)
 length_field number bytes h =
     omega (
@@ -18,10 +19,12 @@ length_field number bytes h =
       varint_one (number * 8 + 2) (omega arith),
     )
 
+-- how many bytes a field of a number has
 pub length_number : (number n : ℕ) → number < 15 → length (number_field number n) ≡ number_length n
 length_number number zero h = refl
 length_number number (suc n) h = omega (arith, length-append (varint (number * 8)) (varint (suc n)), varint_one (number * 8) (omega arith))
 
+-- how many bytes the message of a digest has
 pub length_digest : (d : Digest) (field number : ℕ) → length d.hash ≡ 32 → field ≡ field_length 64 → number ≡ number_length d.size
     → field + number ≡ length (digest_message d)
 length_digest d field number h e f =
@@ -36,7 +39,7 @@ length_digest d field number h e f =
     hash_length : (d : Digest) → length d.hash ≡ 32 → length (hash_text d) ≡ 64
     hash_length d h = omega (arith, length-encode_with lower_digits d.hash)
 
--- two fields of bytes, one after the other
+-- how many bytes two fields of bytes have, one behind the other
 pub length_two : (a b : List ℕ) (m n first second : ℕ) → m ≡ length a → n ≡ length b → first ≡ field_length m → second ≡ field_length n
     → first + second ≡ length (bytes_field 1 a ++ bytes_field 2 b)
 length_two a b m n first second e f g h =
@@ -49,7 +52,7 @@ length_two a b m n first second e f g h =
       h ∙ ap field_length f,
     )
 
--- and a field of a number behind them
+-- the same with a field of a number behind them
 pub length_three : (a b : List ℕ) (m n k first second third : ℕ) → m ≡ length a → n ≡ length b → first ≡ field_length m → second ≡ field_length n
     → third ≡ number_length k → first + second + third ≡ length (bytes_field 1 a ++ bytes_field 2 b ++ number_field 4 k)
 length_three a b m n k first second third e f g h i =

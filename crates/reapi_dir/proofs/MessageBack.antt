@@ -152,23 +152,27 @@ begun {T} name IsField earlier room all bytes rest l =
     subst (λ (xs : List T). Begun name IsField earlier room xs bytes rest) same
     (record { front = l.front; whole = l.whole; fields = l.fields; ascends = order.1; apart = order.2; few = l.few })
 
+-- files that were read from the beginning of their list are its fields, in order and few enough
 pub files_begun : (room : ℕ) (files : List FileNode) (end : ℕ) (bytes rest : List ℕ) → IsBytes bytes → files_read room [] end bytes ≡ Ok (files, rest)
     → Begun file_name IsFileField [] room files bytes rest
 files_begun room files end bytes rest h read =
     begun file_name IsFileField [] room files bytes rest (nodes_spell file_name IsFileField [] 10 next_file_read file_next_spells room [] files end bytes rest h read)
 
+-- the same of directories, whose names are none of the earlier ones
 pub dirs_begun : (earlier : List (List ℕ)) (room : ℕ) (dirs : List DirNode) (end : ℕ) (bytes rest : List ℕ) → IsBytes bytes
     → dirs_read earlier room [] end bytes ≡ Ok (dirs, rest) → Begun dir_name IsDirField earlier room dirs bytes rest
 dirs_begun earlier room dirs end bytes rest h read =
     begun dir_name IsDirField earlier room dirs bytes rest
     (nodes_spell dir_name IsDirField earlier 18 (next_dir_read earlier) (dir_next_spells earlier) room [] dirs end bytes rest h read)
 
+-- the same of links, whose names are none of the earlier ones
 pub links_begun : (earlier : List (List ℕ)) (room : ℕ) (links : List LinkNode) (end : ℕ) (bytes rest : List ℕ) → IsBytes bytes
     → links_read earlier room [] end bytes ≡ Ok (links, rest) → Begun link_name IsLinkField earlier room links bytes rest
 links_begun earlier room links end bytes rest h read =
     begun link_name IsLinkField earlier room links bytes rest
     (nodes_spell link_name IsLinkField earlier 26 (next_link_read earlier) (link_next_spells earlier) room [] links end bytes rest h read)
 
+-- what is left behind a list that was read are bytes
 pub begun_bytes : {T : Type 0} (name : T → List ℕ) (IsField : List ℕ → T → Type 0) (earlier : List (List ℕ)) (room : ℕ) (all : List T) (bytes rest : List ℕ)
     → IsBytes bytes → Begun name IsField earlier room all bytes rest → IsBytes rest
 begun_bytes name IsField earlier room all bytes rest h l = bytes_back l.front rest (subst IsBytes l.whole h)
@@ -191,6 +195,7 @@ same_fault : {A B C : Type 0} (r : Result A DirRefusal) (e x : DirRefusal)
 same_fault (Ok a) e x h = cc
 same_fault (Err y) e x h = cc
 
+-- the fault at the end of a message is the same, whatever was read before
 pub end_fault : {A B : Type 0} (v : A) (w : B) (end : ℕ) (bytes : List ℕ) (e : DirRefusal) → Err e ≡ end_read v end bytes → end_read w end bytes ≡ Err e
 unfolding bad_key_read
 end_fault v w end [] e h = cc
@@ -246,6 +251,7 @@ message_spelled bytes r1 r2 r3 files dirs links message f d l none is =
       };
     })
 
+-- bytes that are read as a message spell it
 pub message_spells : (bytes : List ℕ) (message : DirMessage) (end : ℕ) → IsBytes bytes → message_read end bytes ≡ Ok message → Spells bytes message
 unfolding message_read
 message_spells bytes message end h read =
@@ -265,6 +271,7 @@ apart_nothing : (names : List (List ℕ)) → are_apart [] names ≡ true
 apart_nothing [] = refl
 apart_nothing (name ∷ names) = apart_nothing names
 
+-- bytes that spell a message are read as it
 pub message_back : (bytes : List ℕ) (message : DirMessage) (end : ℕ) → Spells bytes message → length bytes < 2 ^ 64 → message_read end bytes ≡ Ok message
 unfolding message_read
 message_back bytes m end s short =
@@ -310,6 +317,7 @@ module _ {T : Type 0} (text : T → List ℕ) (IsField : List ℕ → T → Type
   fields_of made [] all = refl
   fields_of made (node ∷ nodes) (first, rest) = (text node, flat_map text nodes, refl, made node first, fields_of made nodes rest)
 
+-- bytes that spell a message are its one text
 pub spells_text : (bytes : List ℕ) (message : DirMessage) → Spells bytes message → bytes ≡ spelled message
 spells_text bytes message s =
     let files = fields_text file_text IsFileField IsFile (λ field node is. is.text) message.files s.files s.are_files in
@@ -317,6 +325,7 @@ spells_text bytes message s =
     let links = fields_text link_text IsLinkField IsLink (λ field node is. is.text) message.links s.links s.are_links in
     rw (s.whole, files, dirs, links) refl
 
+-- a message that some bytes spell meets the side rules
 pub spells_rules : (bytes : List ℕ) (message : DirMessage) → Spells bytes message → IsMessage message
 spells_rules bytes message s = record {
   files = fields_rules file_text IsFileField IsFile (λ field node is. is.rules) message.files s.files s.are_files;
@@ -325,6 +334,7 @@ spells_rules bytes message s = record {
   order = s.order;
 }
 
+-- the text of a message that meets the side rules spells it
 pub text_spells : (message : DirMessage) → IsMessage message → Spells (spelled message) message
 text_spells message h = record {
   files = flat_map file_text message.files;

@@ -21,6 +21,7 @@ use Rattle.reapi_dir.proofs.WireBack.{both_gave, bytes_back, field_back, field_s
 
 -- ---- the end of a message
 
+-- where nothing may follow and a value was given, nothing followed
 pub last_gave : {A : Type 0} (v w : A) (end : ℕ) (bytes : List ℕ) → last_read v end bytes ≡ Ok w → (bytes ≡ []) × (v ≡ w)
 last_gave v w end [] h = (refl, same_value v w h)
 last_gave v w end (b ∷ more) h = cc
@@ -69,6 +70,7 @@ hash_gave at (Some x) hash h = cc
 hash_len : (d : Digest) → IsDigest d → length (hash_text d) ≡ 64
 hash_len d h = omega (arith, length-encode_with lower_digits d.hash, h.hash_len)
 
+-- the message of a digest within the limit is read as that digest
 pub digest_back : (d : Digest) (limit end : ℕ) → IsDigest d → d.size ≤ limit → digest_read limit end (digest_message d) ≡ Ok d
 unfolding digest_read
 digest_back d limit end h le =
@@ -79,6 +81,7 @@ digest_back d limit end h le =
       size_back d.size limit end le h.size_fits,
     ) refl
 
+-- bytes that are read as a digest are its message, and it is a digest within the limit
 pub digest_spells : (bytes : List ℕ) (d : Digest) (limit end : ℕ) → IsBytes bytes → limit < 2 ^ 64 → digest_read limit end bytes ≡ Ok d
     → (bytes ≡ digest_message d) × IsDigest d × (d.size ≤ limit)
 unfolding digest_read
@@ -98,12 +101,14 @@ digest_spells bytes d limit end h fits read =
         subst (λ (x : Digest). (bytes ≡ digest_message x) × IsDigest x × (x.size ≤ limit)) is
         (rw (a, b, c) refl, record { hash_len = len; hash_bytes = each; size_fits = omega arith }, le)
 
+-- the field of a digest within the limit is read as that digest
 pub digest_field_back : (d : Digest) (limit end : ℕ) (rest : List ℕ) → IsDigest d → d.size ≤ limit → length (digest_message d) < 2 ^ 64
     → digest_field_read limit end (bytes_field 2 (digest_message d) ++ rest) ≡ Ok (d, rest)
 unfolding digest_field_read
 digest_field_back d limit end rest h le short =
     rw (field_back 18 end (digest_message d) rest (omega arith) short, digest_back d limit (place end rest) h le) refl
 
+-- bytes that are read as the field of a digest begin with it, and it is a digest within the limit
 pub digest_field_spells : (bytes : List ℕ) (d : Digest) (limit end : ℕ) (rest : List ℕ) → IsBytes bytes → limit < 2 ^ 64
     → digest_field_read limit end bytes ≡ Ok (d, rest) → (bytes ≡ bytes_field 2 (digest_message d) ++ rest) × IsDigest d × (d.size ≤ limit)
 unfolding digest_field_read
@@ -124,17 +129,20 @@ digest_field_spells bytes d limit end rest h fits read =
 
 -- ---- names and targets
 
+-- a name has at most 255 bytes
 pub name_len : (name : List ℕ) → is_name name ≡ true → length name ≤ 255
 name_len name h =
     leb-true (length name) 255 (second_so (nat_le 1 (length name)) (nat_le (length name) 255)
     (first_so (nat_le 1 (length name) && nat_le (length name) 255) (list_all is_name_byte name)
     (first_so (nat_le 1 (length name) && nat_le (length name) 255 && list_all is_name_byte name) (not (is_dots name)) h)))
 
+-- a target has at most 1,024 bytes
 pub target_len : (target : List ℕ) → is_target target ≡ true → length target ≤ 1024
 target_len target h =
     leb-true (length target) 1024 (second_so (nat_le 1 (length target)) (nat_le (length target) 1024)
     (first_so (nat_le 1 (length target) && nat_le (length target) 1024) (list_all is_text_byte target) h))
 
+-- the field of a name that is new is read as that name
 pub name_back : (last : Option (List ℕ)) (earlier : List (List ℕ)) (name : List ℕ) (end : ℕ) (rest : List ℕ) → is_name name ≡ true
     → is_new last earlier name ≡ true → name_read last earlier end (bytes_field 1 name ++ rest) ≡ Ok (name, rest)
 unfolding name_read name_field_read
@@ -142,6 +150,7 @@ name_back last earlier name end rest h new =
     let len = name_len name h in
     rw (field_back 10 end name rest (omega arith) (omega arith), h, new) refl
 
+-- bytes that are read as the field of a name begin with it, and it is a name that is new
 pub name_spells : (last : Option (List ℕ)) (earlier : List (List ℕ)) (bytes name : List ℕ) (end : ℕ) (rest : List ℕ) → IsBytes bytes
     → name_read last earlier end bytes ≡ Ok (name, rest)
     → (bytes ≡ bytes_field 1 name ++ rest) × (is_name name ≡ true) × (is_new last earlier name ≡ true)
@@ -164,12 +173,14 @@ name_spells last earlier bytes name end rest h read =
           subst (λ (x : List ℕ × List ℕ). is_new last earlier x.0 ≡ true) f c,
         )
 
+-- the field of a target is read as that target
 pub target_back : (target : List ℕ) (end : ℕ) (rest : List ℕ) → is_target target ≡ true → target_read end (bytes_field 2 target ++ rest) ≡ Ok (target, rest)
 unfolding target_read
 target_back target end rest h =
     let len = target_len target h in
     rw (field_back 18 end target rest (omega arith) (omega arith), h) refl
 
+-- bytes that are read as the field of a target begin with it, and it is a target
 pub target_spells : (bytes target : List ℕ) (end : ℕ) (rest : List ℕ) → IsBytes bytes → target_read end bytes ≡ Ok (target, rest)
     → (bytes ≡ bytes_field 2 target ++ rest) × (is_target target ≡ true)
 unfolding target_read
@@ -216,6 +227,7 @@ exec_spells (b ∷ more) exec end h read =
 pub inner_len : (a b c : List ℕ) → length c ≤ length (a ++ b ++ c)
 inner_len a b c = omega (arith, length-append (a ++ b) c)
 
+-- the message of a file that meets the rules, with a new name, is read as that file
 pub file_back : (node : FileNode) (last : Option (List ℕ)) (end : ℕ) → IsFile node → is_new last [] node.name ≡ true
     → length (file_message node.name node.digest node.exec) < 2 ^ 64 → file_read last end (file_message node.name node.digest node.exec) ≡ Ok node
 unfolding file_read
@@ -234,6 +246,7 @@ file_back node last end h new short =
       exec_back node.exec end,
     ) refl
 
+-- bytes that are read as a file are its message, and it meets the rules and has a new name
 pub file_spells : (bytes : List ℕ) (node : FileNode) (last : Option (List ℕ)) (end : ℕ) → IsBytes bytes → file_read last end bytes ≡ Ok node
     → (bytes ≡ file_message node.name node.digest node.exec) × IsFile node × (is_new last [] node.name ≡ true)
 unfolding file_read
@@ -261,6 +274,7 @@ file_spells bytes node last end h read =
           new,
         )
 
+-- the message of a directory that meets the rules, with a new name, is read as that directory
 pub dir_back : (node : DirNode) (last : Option (List ℕ)) (earlier : List (List ℕ)) (end : ℕ) → IsDir node → is_new last earlier node.name ≡ true
     → length (dir_message node.name node.digest) < 2 ^ 64 → dir_read last earlier end (dir_message node.name node.digest) ≡ Ok node
 unfolding dir_read
@@ -274,6 +288,7 @@ dir_back node last earlier end h new short =
     (digest_field_back node.digest greatest_dir end [] h.digest h.size (omega arith)) in
     rw (name_back last earlier node.name end digest h.named new, alone) refl
 
+-- bytes that are read as a directory are its message, and it meets the rules and has a new name
 pub dir_spells : (bytes : List ℕ) (node : DirNode) (last : Option (List ℕ)) (earlier : List (List ℕ)) (end : ℕ) → IsBytes bytes
     → dir_read last earlier end bytes ≡ Ok node
     → (bytes ≡ dir_message node.name node.digest) × IsDir node × (is_new last earlier node.name ≡ true)
@@ -300,6 +315,7 @@ dir_spells bytes node last earlier end h read =
           new,
         )
 
+-- the message of a link that meets the rules, with a new name, is read as that link
 pub link_back : (node : LinkNode) (last : Option (List ℕ)) (earlier : List (List ℕ)) (end : ℕ) → IsLink node → is_new last earlier node.name ≡ true
     → link_read last earlier end (link_message node.name node.target) ≡ Ok node
 unfolding link_read
@@ -309,6 +325,7 @@ link_back node last earlier end h new =
     subst (λ (xs : List ℕ). target_read end xs ≡ Ok (node.target, [])) (append-nil target) (target_back node.target end [] h.target) in
     rw (name_back last earlier node.name end target h.named new, alone) refl
 
+-- bytes that are read as a link are its message, and it meets the rules and has a new name
 pub link_spells : (bytes : List ℕ) (node : LinkNode) (last : Option (List ℕ)) (earlier : List (List ℕ)) (end : ℕ) → IsBytes bytes
     → link_read last earlier end bytes ≡ Ok node
     → (bytes ≡ link_message node.name node.target) × IsLink node × (is_new last earlier node.name ≡ true)

@@ -37,7 +37,7 @@ new_ascend earlier last (name ∷ names) h =
     behind None after all = refl
     behind (Some last) after all = and_from (is_before last name) (list_all (is_before last) names) after (before_all last name names after all)
 
--- and the other way round
+-- names that ascend, are greater than the last before them and stand in no earlier list are new one by one
 pub ascend_new : (earlier : List (List ℕ)) (last : Option (List ℕ)) (names : List (List ℕ)) → behind_all last names ≡ true → ascend names ≡ true
     → are_apart earlier names ≡ true → all_new earlier last names ≡ true
 ascend_new earlier last [] behind h apart = refl

@@ -98,11 +98,11 @@ module _ {T : Type 0} (name_of : T → List ℕ) (name : List ℕ) where
       let first = h 0 x (omega arith) in
       rw (same_by_order name (name_of x), first) (stands_nowhere xs (λ k d inside. h (suc k) d (omega arith)))
 
-  -- so a binary search answers whether a node has the name
-  pub searched : (xs : List T) (r : Result ℕ ℕ) → ascend (map name_of xs) ≡ true → IsSearchInRange r (length xs)
+  -- a binary search by name answers whether a node has that name, where the names ascend
+  pub search_tells_name : (xs : List T) (r : Result ℕ ℕ) → ascend (map name_of xs) ≡ true → IsSearchInRange r (length xs)
       → IsBinarySearchResult (λ y. name_cmp (name_of y) name) xs r → is_ok r ≡ list_any (same_name name) (map name_of xs)
-  searched xs (Ok k) h inside found = sym (stands xs k inside found)
-  searched xs (Err k) h inside split =
+  search_tells_name xs (Ok k) h inside found = sym (stands xs k inside found)
+  search_tells_name xs (Err k) h inside split =
       let parts = split (rising xs h) in
       sym (stands_nowhere xs (λ j d below.
       elim (cases_lt j k) [

@@ -14,9 +14,9 @@ use Rattle.reapi_dir.specs.Grammar.{InOrder, IsMessage, Spells, ascend, dir_name
 use Rattle.reapi_dir.specs.SumMessage.{child_dir, child_file, child_link, child_name, children_message_of}
 use Rattle.reapi_dir.proofs.FlatLevels.{digest_is_of_message}
 use Rattle.reapi_dir.proofs.MessageBack.{text_spells}
-use Rattle.reapi_dir.proofs.SumOrder.{apart_among, apart_both, ascend_among, children_ascend, dir_names, dir_no_link, file_names, file_no_dir, file_no_link, holds_dir, holds_file, holds_link, kinds_few, link_names}
-use Rattle.reapi_dir.proofs.SumRules.{children_few, children_held, dirs_meet, files_meet, links_meet, nodes_held}
-use Rattle.reapi_dir.proofs.SumText.{text_is}
+use Rattle.reapi_dir.proofs.SumOrder.{apart_among, apart_both, ascend_among, children_ascend, dir_names, dir_no_link, file_names, file_no_dir, file_no_link, is_dir_node, is_file_node, is_link_node, kinds_few, link_names}
+use Rattle.reapi_dir.proofs.SumRules.{children_few, children_sound, dirs_meet, files_meet, links_meet, nodes_sound}
+use Rattle.reapi_dir.proofs.SumText.{children_text_is_message}
 
 -- ---- the root
 
@@ -40,6 +40,7 @@ fewer_children (root ∷ rest) e =
 some_same : (v w : What) → Some v ≡ Some w → v ≡ w
 some_same v w e = cc
 
+-- the digest of a directory tree's sum is that of its message
 pub sum_digest : (nodes : List Flat) → is_rooted nodes ≡ true → what_at nodes [] ≡ Some what.Dir → (sum_of nodes).digest ≡ digest_of (message_by dir_digest nodes)
 sum_digest [] rooted e = cc
 sum_digest (root ∷ rest) rooted e =
@@ -51,33 +52,34 @@ sum_digest (root ∷ rest) rooted e =
 -- ---- the message
 
 children_in_order : (cs : List Flat) (files dirs links : List (List ℕ)) → ascend (map child_name cs) ≡ true → length cs ≤ most_children
-    → files ≡ map child_name (filter holds_file cs) → dirs ≡ map child_name (filter holds_dir cs) → links ≡ map child_name (filter holds_link cs)
+    → files ≡ map child_name (filter is_file_node cs) → dirs ≡ map child_name (filter is_dir_node cs) → links ≡ map child_name (filter is_link_node cs)
     → InOrder files dirs links
 children_in_order cs files dirs links up few is_files is_dirs is_links =
-    let a = map child_name (filter holds_file cs) in
-    let b = map child_name (filter holds_dir cs) in
-    let c = map child_name (filter holds_link cs) in
+    let a = map child_name (filter is_file_node cs) in
+    let b = map child_name (filter is_dir_node cs) in
+    let c = map child_name (filter is_link_node cs) in
     let order : InOrder a b c = record {
-      files_ascend = ascend_among holds_file cs up;
-      dirs_ascend = ascend_among holds_dir cs up;
-      links_ascend = ascend_among holds_link cs up;
-      dirs_apart = apart_among holds_file holds_dir file_no_dir cs up;
-      links_apart = apart_both a b c (apart_among holds_file holds_link file_no_link cs up) (apart_among holds_dir holds_link dir_no_link cs up);
+      files_ascend = ascend_among is_file_node cs up;
+      dirs_ascend = ascend_among is_dir_node cs up;
+      links_ascend = ascend_among is_link_node cs up;
+      dirs_apart = apart_among is_file_node is_dir_node file_no_dir cs up;
+      links_apart = apart_both a b c (apart_among is_file_node is_link_node file_no_link cs up) (apart_among is_dir_node is_link_node dir_no_link cs up);
       few = omega (
         arith,
         kinds_few cs,
-        length-map (filter holds_file cs) child_name,
-        length-map (filter holds_dir cs) child_name,
-        length-map (filter holds_link cs) child_name,
+        length-map (filter is_file_node cs) child_name,
+        length-map (filter is_dir_node cs) child_name,
+        length-map (filter is_link_node cs) child_name,
       );
     } in
     rw (is_files, is_dirs, is_links) order
 
+-- the message of a tree's children meets the side rules
 pub is_message : (nodes : List Flat) → IsTree nodes → All IsNode nodes → IsMessage (children_message_of nodes)
-is_message nodes tree held =
+is_message nodes tree known =
     let cs = children_of nodes in
-    let all = nodes_held nodes tree.rels tree.small held in
-    let children = children_held nodes all in
+    let all = nodes_sound nodes tree.rels tree.small known in
+    let children = children_sound nodes all in
     let fewer = fewer_children nodes tree.root in
     let most = tree.few in
     record {
@@ -88,6 +90,7 @@ is_message nodes tree held =
           (map link_name (filter_map child_link cs)) (children_ascend nodes tree.order) (omega arith) (file_names cs) (dir_names nodes cs) (link_names cs);
     }
 
+-- the bytes of a tree's message spell the message of its children
 pub sum_spells : (nodes : List Flat) → IsTree nodes → All IsNode nodes → Spells (message_by dir_digest nodes) (children_message_of nodes)
-sum_spells nodes tree held =
-    subst (λ (bytes : List ℕ). Spells bytes (children_message_of nodes)) (text_is nodes) (text_spells (children_message_of nodes) (is_message nodes tree held))
+sum_spells nodes tree known =
+    subst (λ (bytes : List ℕ). Spells bytes (children_message_of nodes)) (children_text_is_message nodes) (text_spells (children_message_of nodes) (is_message nodes tree known))

@@ -78,6 +78,7 @@ all_among q p (c ∷ cs) e =
     by true first rest = and_from (q (child_name c)) (list_all q (map child_name (filter p cs))) first rest
     by false first rest = rest
 
+-- the names of some of the children ascend where those of all do
 pub ascend_among : (p : Flat → Bool) (cs : List Flat) → ascend (map child_name cs) ≡ true → ascend (map child_name (filter p cs)) ≡ true
 ascend_among p [] e = refl
 ascend_among p (c ∷ cs) e =
@@ -117,17 +118,20 @@ is_file_what (what.File digest exec) = true
 is_file_what what.Dir = false
 is_file_what (what.Link target) = false
 
--- whether a node is a file, a directory or a link
-abbrev pub holds_file : Flat → Bool
-holds_file node = is_file_what node.what
+-- whether a node is a file
+abbrev pub is_file_node : Flat → Bool
+is_file_node node = is_file_what node.what
 
-abbrev pub holds_dir : Flat → Bool
-holds_dir node = is_dir node.what
+-- whether a node is a directory
+abbrev pub is_dir_node : Flat → Bool
+is_dir_node node = is_dir node.what
 
-abbrev pub holds_link : Flat → Bool
-holds_link node = is_link node.what
+-- whether a node is a link
+abbrev pub is_link_node : Flat → Bool
+is_link_node node = is_link node.what
 
-pub file_no_dir : (c : Flat) → (holds_file c && holds_dir c) ≡ false
+-- no node is a file and a directory
+pub file_no_dir : (c : Flat) → (is_file_node c && is_dir_node c) ≡ false
 file_no_dir c = by c.what
   where
     by : (w : What) → (is_file_what w && is_dir w) ≡ false
@@ -135,7 +139,8 @@ file_no_dir c = by c.what
     by what.Dir = refl
     by (what.Link target) = refl
 
-pub file_no_link : (c : Flat) → (holds_file c && holds_link c) ≡ false
+-- no node is a file and a link
+pub file_no_link : (c : Flat) → (is_file_node c && is_link_node c) ≡ false
 file_no_link c = by c.what
   where
     by : (w : What) → (is_file_what w && is_link w) ≡ false
@@ -143,7 +148,8 @@ file_no_link c = by c.what
     by what.Dir = refl
     by (what.Link target) = refl
 
-pub dir_no_link : (c : Flat) → (holds_dir c && holds_link c) ≡ false
+-- no node is a directory and a link
+pub dir_no_link : (c : Flat) → (is_dir_node c && is_link_node c) ≡ false
 dir_no_link c = by c.what
   where
     by : (w : What) → (is_dir w && is_link w) ≡ false
@@ -151,10 +157,10 @@ dir_no_link c = by c.what
     by what.Dir = refl
     by (what.Link target) = refl
 
--- each child is of one kind
-pub kinds_few : (cs : List Flat) → length (filter holds_file cs) + length (filter holds_dir cs) + length (filter holds_link cs) ≤ length cs
+-- each child is of one kind, so the files, directories and links are no more than the children
+pub kinds_few : (cs : List Flat) → length (filter is_file_node cs) + length (filter is_dir_node cs) + length (filter is_link_node cs) ≤ length cs
 kinds_few [] = omega arith
-kinds_few (c ∷ cs) = by c.what (filter holds_file cs) (filter holds_dir cs) (filter holds_link cs) (kinds_few cs)
+kinds_few (c ∷ cs) = by c.what (filter is_file_node cs) (filter is_dir_node cs) (filter is_link_node cs) (kinds_few cs)
   where
     by : (w : What) (files dirs links : List Flat) → length files + length dirs + length links ≤ length cs
         → length (cond (is_file_what w) (c ∷ files) files) + length (cond (is_dir w) (c ∷ dirs) dirs) + length (cond (is_link w) (c ∷ links) links)
@@ -170,8 +176,9 @@ names_are : {Y : Type 0} (name : Y → List ℕ) (give : Flat → Option Y) (p :
 names_are name give p each [] = refl
 names_are name give p each (c ∷ cs) = each c (filter p cs) (filter_map give cs) (names_are name give p each cs)
 
-pub file_names : (cs : List Flat) → map file_name (filter_map child_file cs) ≡ map child_name (filter holds_file cs)
-file_names = names_are file_name child_file holds_file (λ c cs ys e. by c.what c cs ys e)
+-- the names of the files that children give are those of the children that are files
+pub file_names : (cs : List Flat) → map file_name (filter_map child_file cs) ≡ map child_name (filter is_file_node cs)
+file_names = names_are file_name child_file is_file_node (λ c cs ys e. by c.what c cs ys e)
   where
     by : (w : What) (c : Flat) (cs : List Flat) (ys : List FileNode) → map file_name ys ≡ map child_name cs
         → map file_name (cons_option (file_node_of (child_name c) w) ys) ≡ map child_name (cond (is_file_what w) (c ∷ cs) cs)
@@ -179,8 +186,9 @@ file_names = names_are file_name child_file holds_file (λ c cs ys e. by c.what 
     by what.Dir c cs ys e = e
     by (what.Link target) c cs ys e = e
 
-pub dir_names : (nodes cs : List Flat) → map dir_name (filter_map (child_dir nodes) cs) ≡ map child_name (filter holds_dir cs)
-dir_names nodes = names_are dir_name (child_dir nodes) holds_dir (λ c cs ys e. by c.what c _ cs ys e)
+-- the names of the directories that children give are those of the children that are directories
+pub dir_names : (nodes cs : List Flat) → map dir_name (filter_map (child_dir nodes) cs) ≡ map child_name (filter is_dir_node cs)
+dir_names nodes = names_are dir_name (child_dir nodes) is_dir_node (λ c cs ys e. by c.what c _ cs ys e)
   where
     by : (w : What) (c : Flat) (digest : Digest) (cs : List Flat) (ys : List DirNode) → map dir_name ys ≡ map child_name cs
         → map dir_name (cons_option (dir_node_of (child_name c) digest w) ys) ≡ map child_name (cond (is_dir w) (c ∷ cs) cs)
@@ -188,8 +196,9 @@ dir_names nodes = names_are dir_name (child_dir nodes) holds_dir (λ c cs ys e. 
     by what.Dir c digest cs ys e = ap (λ t. child_name c ∷ t) e
     by (what.Link target) c digest cs ys e = e
 
-pub link_names : (cs : List Flat) → map link_name (filter_map child_link cs) ≡ map child_name (filter holds_link cs)
-link_names = names_are link_name child_link holds_link (λ c cs ys e. by c.what c cs ys e)
+-- the names of the links that children give are those of the children that are links
+pub link_names : (cs : List Flat) → map link_name (filter_map child_link cs) ≡ map child_name (filter is_link_node cs)
+link_names = names_are link_name child_link is_link_node (λ c cs ys e. by c.what c cs ys e)
   where
     by : (w : What) (c : Flat) (cs : List Flat) (ys : List LinkNode) → map link_name ys ≡ map child_name cs
         → map link_name (cons_option (link_node_of (child_name c) w) ys) ≡ map child_name (cond (is_link w) (c ∷ cs) cs)
@@ -222,6 +231,7 @@ names_after name (x ∷ xs) e =
         (name_after name x.rel (single_is x.rel single) after) rest
     by false single after rest = rest
 
+-- the names of the children ascend where the nodes of the tree do
 pub children_ascend : (nodes : List Flat) → ascends nodes ≡ true → ascend (map child_name (children_of nodes)) ≡ true
 children_ascend [] e = refl
 children_ascend (x ∷ xs) e =

@@ -27,63 +27,68 @@ use Rattle.reapi_dir.proofs.SumText.{name_joined}
 
 -- ---- what is known of each node
 
--- a node with names in its rel, within its limit, that can be held
-pub record IsHeld (node : Flat) : Type 0 where
+-- a node that a tree may have: names in its rel, a file within its limit, and the rules of what it is
+pub record IsSound (node : Flat) : Type 0 where
   pub named : list_all is_name node.rel ≡ true
   pub small : is_small node ≡ true
-  pub held : IsNode node
+  pub is_node : IsNode node
 
 -- the same of a child
-pub record IsHeldChild (node : Flat) : Type 0 where
+pub record IsSoundChild (node : Flat) : Type 0 where
   pub single : is_child node ≡ true
-  pub held : IsHeld node
+  pub sound : IsSound node
 
 -- the names of a rel are names
 rel_named : (rel : List (List ℕ)) → is_rel rel ≡ true → list_all is_name rel ≡ true
 rel_named rel h = second_so (nat_le (length rel) 64 && nat_le (length (joined rel)) 1024) (list_all is_name rel) h
 
-pub nodes_held : (nodes : List Flat) → list_all has_rel nodes ≡ true → list_all is_small nodes ≡ true → All IsNode nodes → AllByRecursion IsHeld nodes
-nodes_held [] rels small held = tt
-nodes_held (x ∷ xs) rels small held = (
+-- each node of a tree is sound
+pub nodes_sound : (nodes : List Flat) → list_all has_rel nodes ≡ true → list_all is_small nodes ≡ true → All IsNode nodes → AllByRecursion IsSound nodes
+nodes_sound [] rels small known = tt
+nodes_sound (x ∷ xs) rels small known = (
   record {
     named = rel_named x.rel (first_so (has_rel x) (list_all has_rel xs) rels);
     small = first_so (is_small x) (list_all is_small xs) small;
-    held = All-head IsNode x xs held;
+    is_node = All-head IsNode x xs known;
   },
-  nodes_held xs (second_so (has_rel x) (list_all has_rel xs) rels) (second_so (is_small x) (list_all is_small xs) small) (All-tail IsNode x xs held),
+  nodes_sound xs (second_so (has_rel x) (list_all has_rel xs) rels) (second_so (is_small x) (list_all is_small xs) small) (All-tail IsNode x xs known),
 )
 
-pub children_held : (nodes : List Flat) → AllByRecursion IsHeld nodes → AllByRecursion IsHeldChild (children_of nodes)
-children_held nodes all = all_passing IsHeld IsHeldChild is_child (λ c single held. record { single = single; held = held }) nodes all
+-- each child among sound nodes is sound
+pub children_sound : (nodes : List Flat) → AllByRecursion IsSound nodes → AllByRecursion IsSoundChild (children_of nodes)
+children_sound nodes all = all_passing IsSound IsSoundChild is_child (λ c single known. record { single = single; sound = known }) nodes all
 
 all_drop : (k : ℕ) (names : List (List ℕ)) → list_all is_name names ≡ true → list_all is_name (drop k names) ≡ true
 all_drop zero names h = h
 all_drop (suc k) [] h = refl
 all_drop (suc k) (name ∷ names) h = all_drop k names (second_so (is_name name) (list_all is_name names) h)
 
-seen_held : (rel : List (List ℕ)) (node : Flat) → IsHeld node → IsHeld (seen_from rel node)
-seen_held rel node h = record { named = all_drop (length rel) node.rel h.named; small = h.small; held = h.held }
+seen_sound : (rel : List (List ℕ)) (node : Flat) → IsSound node → IsSound (seen_from rel node)
+seen_sound rel node h = record { named = all_drop (length rel) node.rel h.named; small = h.small; is_node = h.is_node }
 
-pub sub_held : (rel : List (List ℕ)) (nodes : List Flat) → AllByRecursion IsHeld nodes → AllByRecursion IsHeld (sub_tree nodes rel)
-sub_held rel nodes all = seen_all (filter (is_below rel) nodes) (all_passing IsHeld IsHeld (is_below rel) (λ x below held. held) nodes all)
+-- each node of the part of a tree below a rel is sound, where those of the tree are
+pub sub_sound : (rel : List (List ℕ)) (nodes : List Flat) → AllByRecursion IsSound nodes → AllByRecursion IsSound (sub_tree nodes rel)
+sub_sound rel nodes all = seen_all (filter (is_below rel) nodes) (all_passing IsSound IsSound (is_below rel) (λ x below known. known) nodes all)
   where
-    seen_all : (xs : List Flat) → AllByRecursion IsHeld xs → AllByRecursion IsHeld (map (seen_from rel) xs)
+    seen_all : (xs : List Flat) → AllByRecursion IsSound xs → AllByRecursion IsSound (map (seen_from rel) xs)
     seen_all [] h = tt
-    seen_all (x ∷ xs) (first, rest) = (seen_held rel x first, seen_all xs rest)
+    seen_all (x ∷ xs) (first, rest) = (seen_sound rel x first, seen_all xs rest)
 
 filter_few : {X : Type 0} (p : X → Bool) (xs : List X) → length (filter p xs) ≤ length xs
 filter_few p xs = omega (arith, length-filter p xs, count_by-le-length p xs)
 
+-- there are no more children than nodes
 pub children_few : (nodes : List Flat) → length (children_of nodes) ≤ length nodes
 children_few nodes = filter_few is_child nodes
 
+-- the part of a tree below a rel has no more nodes than the tree
 pub sub_few : (rel : List (List ℕ)) (nodes : List Flat) → length (sub_tree nodes rel) ≤ length nodes
 sub_few rel nodes = omega (arith, length-map (filter (is_below rel) nodes) (seen_from rel), filter_few (is_below rel) nodes)
 
 -- a child's name is one
-pub child_named : (c : Flat) → IsHeldChild c → is_name (child_name c) ≡ true
+pub child_named : (c : Flat) → IsSoundChild c → is_name (child_name c) ≡ true
 child_named c h =
-    first_so (is_name (first_name c.rel)) true (ap (list_all is_name) (sym (single_is c.rel h.single)) ∙ h.held.named)
+    first_so (is_name (first_name c.rel)) true (ap (list_all is_name) (sym (single_is c.rel h.single)) ∙ h.sound.named)
 
 -- ---- how many bytes a message has
 
@@ -161,22 +166,23 @@ parts_short part [] all = omega arith
 parts_short part (x ∷ xs) (first, rest) = omega (arith, length-append (part x) (flat_map part xs), parts_short part xs rest)
 
 -- the text of a child's rel is short
-joined_short : (c : Flat) → IsHeldChild c → length (joined c.rel) ≤ 255
+joined_short : (c : Flat) → IsSoundChild c → length (joined c.rel) ≤ 255
 joined_short c h = omega (arith, ap length (name_joined c.rel h.single), name_len (child_name c) (child_named c h))
 
 dir_hash : (nodes : List Flat) → length (dir_digest nodes).hash ≡ 32
 dir_hash nodes = ap (λ (d : Digest). length d.hash) (digest_is_of_message nodes) ∙ digest_hash (message_by dir_digest nodes)
 
-pub message_short : (nodes : List Flat) → AllByRecursion IsHeld nodes → length nodes ≤ 10000 → length (message_by dir_digest nodes) ≤ 60000000
+-- the message of a tree of at most 10,000 nodes has at most 60,000,000 bytes
+pub message_short : (nodes : List Flat) → AllByRecursion IsSound nodes → length nodes ≤ 10000 → length (message_by dir_digest nodes) ≤ 60000000
 message_short nodes all few =
     let cs = children_of nodes in
-    let held = children_held nodes all in
-    let files = parts_short file_part cs (all_follow IsHeldChild (λ (c : Flat). length (file_part c) ≤ 2000)
-    (λ c h. file_short (joined c.rel) c.what (joined_short c h) h.held.held) cs held) in
-    let dirs = parts_short (dir_part dir_digest nodes) cs (all_follow IsHeldChild (λ (c : Flat). length (dir_part dir_digest nodes c) ≤ 2000)
-    (λ c h. dir_short (joined c.rel) (dir_digest (sub_tree nodes c.rel)) c.what (joined_short c h) (dir_hash (sub_tree nodes c.rel))) cs held) in
-    let links = parts_short link_part cs (all_follow IsHeldChild (λ (c : Flat). length (link_part c) ≤ 2000)
-    (λ c h. link_short (joined c.rel) c.what (joined_short c h) h.held.held) cs held) in
+    let known = children_sound nodes all in
+    let files = parts_short file_part cs (all_follow IsSoundChild (λ (c : Flat). length (file_part c) ≤ 2000)
+    (λ c h. file_short (joined c.rel) c.what (joined_short c h) h.sound.is_node) cs known) in
+    let dirs = parts_short (dir_part dir_digest nodes) cs (all_follow IsSoundChild (λ (c : Flat). length (dir_part dir_digest nodes c) ≤ 2000)
+    (λ c h. dir_short (joined c.rel) (dir_digest (sub_tree nodes c.rel)) c.what (joined_short c h) (dir_hash (sub_tree nodes c.rel))) cs known) in
+    let links = parts_short link_part cs (all_follow IsSoundChild (λ (c : Flat). length (link_part c) ≤ 2000)
+    (λ c h. link_short (joined c.rel) c.what (joined_short c h) h.sound.is_node) cs known) in
     omega (
       arith,
       length-append (flat_map file_part cs ++ flat_map (dir_part dir_digest nodes) cs) (flat_map link_part cs),
@@ -188,9 +194,9 @@ message_short nodes all few =
     )
 
 -- the digest of a directory's message is one, of a size that a directory may have
-pub dir_digest_held : (nodes : List Flat) → AllByRecursion IsHeld nodes → length nodes ≤ 10000
+pub dir_digest_sound : (nodes : List Flat) → AllByRecursion IsSound nodes → length nodes ≤ 10000
     → IsDigest (dir_digest nodes) × ((dir_digest nodes).size ≤ greatest_dir)
-dir_digest_held nodes all few =
+dir_digest_sound nodes all few =
     let bytes = message_by dir_digest nodes in
     let short = message_short nodes all few in
     subst (λ (d : Digest). IsDigest d × (d.size ≤ greatest_dir)) (sym (digest_is_of_message nodes))
@@ -198,8 +204,8 @@ dir_digest_held nodes all few =
 
 -- ---- the rules of each node of the message
 
-made : {Y : Type 0} (Rules : Y → Type 0) (give : Flat → Option Y) → ((c : Flat) → IsHeldChild c → IfSome (give c) Rules) → (cs : List Flat)
-    → AllByRecursion IsHeldChild cs → AllByRecursion Rules (filter_map give cs)
+made : {Y : Type 0} (Rules : Y → Type 0) (give : Flat → Option Y) → ((c : Flat) → IsSoundChild c → IfSome (give c) Rules) → (cs : List Flat)
+    → AllByRecursion IsSoundChild cs → AllByRecursion Rules (filter_map give cs)
 made Rules give each [] all = tt
 made {Y} Rules give each (c ∷ cs) (first, rest) = more (give c) (each c first) (filter_map give cs) (made Rules give each cs rest)
   where
@@ -223,17 +229,20 @@ link_made name (what.File digest exec) named is = tt
 link_made name what.Dir named is = tt
 link_made name (what.Link target) named is = record { named = named; target = is }
 
-pub files_meet : (cs : List Flat) → AllByRecursion IsHeldChild cs → AllByRecursion IsFile (filter_map child_file cs)
-files_meet cs held = made IsFile child_file (λ c h. file_made (child_name c) c.what (child_named c h) h.held.small h.held.held) cs held
+-- the files that sound children give meet the rules of a file
+pub files_meet : (cs : List Flat) → AllByRecursion IsSoundChild cs → AllByRecursion IsFile (filter_map child_file cs)
+files_meet cs known = made IsFile child_file (λ c h. file_made (child_name c) c.what (child_named c h) h.sound.small h.sound.is_node) cs known
 
-pub dirs_meet : (nodes cs : List Flat) → AllByRecursion IsHeld nodes → length nodes ≤ 10000 → AllByRecursion IsHeldChild cs
+-- the directories that sound children give meet the rules of a directory
+pub dirs_meet : (nodes cs : List Flat) → AllByRecursion IsSound nodes → length nodes ≤ 10000 → AllByRecursion IsSoundChild cs
     → AllByRecursion IsDir (filter_map (child_dir nodes) cs)
-dirs_meet nodes cs all few held =
+dirs_meet nodes cs all few known =
     made IsDir (child_dir nodes)
     (λ c h.
     let sub = sub_tree nodes c.rel in
-    let is = dir_digest_held sub (sub_held c.rel nodes all) (omega (arith, sub_few c.rel nodes)) in
-    dir_made (child_name c) (dir_digest sub) c.what (child_named c h) is.0 is.1) cs held
+    let is = dir_digest_sound sub (sub_sound c.rel nodes all) (omega (arith, sub_few c.rel nodes)) in
+    dir_made (child_name c) (dir_digest sub) c.what (child_named c h) is.0 is.1) cs known
 
-pub links_meet : (cs : List Flat) → AllByRecursion IsHeldChild cs → AllByRecursion IsLink (filter_map child_link cs)
-links_meet cs held = made IsLink child_link (λ c h. link_made (child_name c) c.what (child_named c h) h.held.held) cs held
+-- the links that sound children give meet the rules of a link
+pub links_meet : (cs : List Flat) → AllByRecursion IsSoundChild cs → AllByRecursion IsLink (filter_map child_link cs)
+links_meet cs known = made IsLink child_link (λ c h. link_made (child_name c) c.what (child_named c h) h.sound.is_node) cs known

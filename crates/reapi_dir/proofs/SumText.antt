@@ -33,7 +33,7 @@ texts_are p give text part each (x ∷ xs) = by (p x) refl (texts_are p give tex
         ∙ ap (λ t. part x ++ t) rest
     by false e rest = rest
 
--- a child's rel as text is its name
+-- the text of a child's rel is its name
 pub name_joined : (rel : List (List ℕ)) → is_single rel ≡ true → first_name rel ≡ joined rel
 name_joined [] e = refl
 name_joined (name ∷ []) e = refl
@@ -54,8 +54,9 @@ link_given name (what.File digest exec) = refl
 link_given name what.Dir = refl
 link_given name (what.Link target) = refl
 
-pub text_is : (nodes : List Flat) → spelled (children_message_of nodes) ≡ message_by dir_digest nodes
-text_is nodes =
+-- the one text of the message of a tree's children is the tree's message
+pub children_text_is_message : (nodes : List Flat) → spelled (children_message_of nodes) ≡ message_by dir_digest nodes
+children_text_is_message nodes =
     let files = texts_are is_child child_file file_text file_part
     (λ c e. file_given (child_name c) c.what ∙ ap (λ n. file_named n c.what) (name_joined c.rel e)) nodes in
     let dirs = texts_are is_child (child_dir nodes) dir_text (dir_part dir_digest nodes)

@@ -16,35 +16,39 @@ pub both_gave : {A B : Type 0} (r : Result A DirRefusal) (f : A → Result B Dir
 both_gave (Ok a) f b h = (a, refl, h)
 both_gave (Err e) f b h = cc
 
--- where a test was passed, it holds
+-- where a value behind a test was given, the test was passed and the value is the tested one
 pub test_gave : {A : Type 0} (t : Bool) (a b : A) (e : DirRefusal) → (if t then Ok a else Err e) ≡ Ok b → (t ≡ true) × (a ≡ b)
 test_gave true a b e h = (refl, cc)
 test_gave false a b e h = cc
 
--- the parts of a value that was given
+-- a value that was given is the one that was told
 pub same_value : {A : Type 0} (p q : A) → (let r : Result A DirRefusal = Ok p in r) ≡ Ok q → p ≡ q
 same_value p q h = cc
 
+-- the first part of a pair that was given is the one that was told
 pub same_first : {A B : Type 0} (a c : A) (b d : B) → (let r : Result (A × B) DirRefusal = Ok (a, b) in r) ≡ Ok (c, d) → a ≡ c
 same_first {A} {B} a c b d h = ap (λ (p : A × B). p.0) (same_value {A = A × B} (a, b) (c, d) h)
 
+-- the second part of a pair that was given is the one that was told
 pub same_second : {A B : Type 0} (a c : A) (b d : B) → (let r : Result (A × B) DirRefusal = Ok (a, b) in r) ≡ Ok (c, d) → b ≡ d
 same_second {A} {B} a c b d h = ap (λ (p : A × B). p.1) (same_value {A = A × B} (a, b) (c, d) h)
 
 -- ---- bytes
 
+-- a front of bytes are bytes
 pub bytes_front : (xs ys : List ℕ) → IsBytes (xs ++ ys) → IsBytes xs
 bytes_front [] ys h k = omega arith
 bytes_front (x ∷ xs) ys h zero = h 0
 bytes_front (x ∷ xs) ys h (suc k) = bytes_front xs ys (λ i. h (suc i)) k
 
+-- what is behind a front of bytes are bytes
 pub bytes_back : (xs ys : List ℕ) → IsBytes (xs ++ ys) → IsBytes ys
 bytes_back [] ys h = h
 bytes_back (x ∷ xs) ys h = bytes_back xs ys (λ i. h (suc i))
 
 -- ---- varints
 
--- the first number that so many groups, and one more, don't hold
+-- the first number that has more groups than so many and one more
 top : ℕ → ℕ
 top zero = 128
 top (suc k) = 128 * top k
@@ -72,6 +76,7 @@ groups_back (suc k) n at end rest small fits =
           rw (long, some, marked, less, inner, positive, high, whole) refl
     ]
 
+-- a varint is read as its number, and what is behind it is left
 pub varint_back : (n end : ℕ) (rest : List ℕ) → n < 2 ^ 64 → varint_read end (varint n ++ rest) ≡ Ok (n, rest)
 unfolding varint_read top
 varint_back n end rest fits = groups_back 9 n (place end (varint n ++ rest)) end rest (omega arith) fits
@@ -117,6 +122,7 @@ groups_spell (b ∷ more) (suc k) n at end rest h read =
           (same_second with.0 n higher.1 rest with.2) inner.0
     ]
 
+-- bytes that are read as a number begin with its varint, and the number fits 64 bits
 pub varint_spells : (bytes : List ℕ) (n end : ℕ) (rest : List ℕ) → IsBytes bytes → varint_read end bytes ≡ Ok (n, rest)
     → (bytes ≡ varint n ++ rest) × (n < 2 ^ 64)
 unfolding varint_read
@@ -124,12 +130,14 @@ varint_spells bytes n end rest h read = groups_spell bytes 10 n (place end bytes
 
 -- ---- keys
 
+-- a key that stands where it is to stand is read
 pub key_back : (key end : ℕ) (rest : List ℕ) → key < 2 ^ 64 → key_read key end (varint key ++ rest) ≡ Ok rest
 unfolding key_read
 key_back key end rest fits =
     let same : nat_eq key key ≡ true = eq-eqb key key refl in
     rw (varint_back key end rest fits, same) refl
 
+-- bytes behind which a key was read begin with its varint
 pub key_spells : (bytes : List ℕ) (key end : ℕ) (rest : List ℕ) → IsBytes bytes → key_read key end bytes ≡ Ok rest → bytes ≡ varint key ++ rest
 unfolding key_read
 key_spells bytes key end rest h read =
@@ -145,6 +153,7 @@ key_spells bytes key end rest h read =
 abbrev pub keyed : ℕ → List ℕ → List ℕ
 keyed key bytes = varint key ++ varint (length bytes) ++ bytes
 
+-- a field of bytes is read as its bytes, and what is behind it is left
 pub field_back : (key end : ℕ) (bytes rest : List ℕ) → key < 2 ^ 64 → length bytes < 2 ^ 64 → field_read key end (keyed key bytes ++ rest) ≡ Ok (bytes, rest)
 unfolding field_read
 field_back key end bytes rest fits short =
@@ -154,6 +163,7 @@ field_back key end bytes rest fits short =
     let back : drop (length bytes) (bytes ++ rest) ≡ rest = drop-append-le (length bytes) bytes rest (omega arith) ∙ ap (λ (xs : List ℕ). xs ++ rest) (drop_all (length bytes) bytes (omega arith)) in
     rw (split, key_back key end (varint (length bytes) ++ (bytes ++ rest)) fits, varint_back (length bytes) end (bytes ++ rest) short, room, front, back) refl
 
+-- bytes of which a field was read begin with that field
 pub field_spells : (all : List ℕ) (key end : ℕ) (bytes rest : List ℕ) → IsBytes all → field_read key end all ≡ Ok (bytes, rest)
     → all ≡ keyed key bytes ++ rest
 unfolding field_read
@@ -179,6 +189,6 @@ field_spells all key end bytes rest h read =
         ∙ sym (append_assoc (varint key) (varint (length bytes)) (bytes ++ rest))
         ∙ sym (append_assoc (varint key ++ varint (length bytes)) bytes rest)
 
--- the bytes of a field are bytes
+-- what is in a field of bytes are bytes
 pub keyed_bytes : (key : ℕ) (bytes rest : List ℕ) → IsBytes (keyed key bytes ++ rest) → IsBytes bytes
 keyed_bytes key bytes rest h = bytes_back (varint key ++ varint (length bytes)) bytes (bytes_front (keyed key bytes) rest h)

@@ -1,9 +1,7 @@
 -- The message of a tree whose root is a directory, from the tree's own nodes: its children, as the nodes of a Directory message.
-use Rattle.std.specs.Prelude.{◌≡◌, ℕ, true, List, [], ◌∷◌, Option, Some, None}
+use Rattle.std.specs.Prelude.{ℕ, List, [], ◌∷◌, Option, Some, None}
 use Rattle.std.specs.List.{filter_map}
-use Rattle.mat_digest.specs.Digests.{IsDigest}
 use Rattle.mat_digest.specs.declared.digest.Digest.{Digest}
-use Rattle.mat_path.specs.Names.{is_target}
 use Rattle.mat_tree.specs.Sums.{children_of, dir_digest}
 use Rattle.mat_tree.specs.Trees.{sub_tree}
 use Rattle.mat_tree.specs.declared.flat.Flat.{Flat}

@@ -1,4 +1,4 @@
-//! Directory messages of the Remote Execution API v2, read and written, and the sums of trees.
+//! Floor of values: Directory messages of the Remote Execution API v2, read and written, and the sums of trees.
 #![tactic(auto)]
 
 mod fields;

@@ -1,12 +1,14 @@
 //! Laws of sums: the sum of a directory is that of a message, which is read again.
-ghost use Rattle.std.specs.Prelude.{◌≡◌, List, [], Some, MatchResult};
+ghost use Rattle.std.specs.Prelude.{◌≡◌, ◌⊎◌, List, [], Some, None, IfOk, MatchResult};
 ghost use Rattle.std.specs.List.{All};
 ghost use Rattle.mat_digest.specs.Digests.{digest_of};
 ghost use Rattle.mat_tree.specs.declared.flat.Flat.{Flat};
 ghost use Rattle.mat_tree.specs.declared.flat.What.TheVariants as what;
 ghost use Rattle.mat_tree.specs.Sums.{dir_digest, message_by, sum_of};
 ghost use Rattle.mat_tree.specs.Trees.{IsNode, IsTree, what_at};
+ghost use Rattle.reapi_dir.specs.declared.message.DirMessage.{DirMessage};
 ghost use Rattle.reapi_dir.specs.Grammar.{Spells};
+ghost use Rattle.reapi_dir.specs.Reading.{dir_refusal};
 ghost use Rattle.reapi_dir.specs.SumMessage.{children_message_of};
 
 use crate::message::DirMessage;
@@ -23,9 +25,15 @@ pub fn sum_is_of_message()
         → Spells (message_by dir_digest nodes) (children_message_of nodes) }
 {}
 
-/// Reads a directory from these bytes, as `read_dir` does: those of a tree's message are read as its children, or memory is wanting.
+/// Reads a directory from these bytes, with the answers of `read_dir`: the message that they spell, the first fault from the left, or
+/// `NoMemory`. Those of a tree's message are read as its children, or memory is wanting.
 pub fn read_children(alloc: Global, bytes: &[u8]) -> Result<DirMessage, DirRefusal>
-    ensures { (nodes : List Flat) → IsTree nodes → All IsNode nodes → what_at nodes [] ≡ Some what.Dir → bytes.now ≡ message_by dir_digest nodes
+    ensures ok { IfOk result (λ message. Spells bytes.now message) }
+    ensures whole { (message : DirMessage) → Spells bytes.now message
+        → MatchResult result (λ read. read ≡ message) (λ refusal. refusal ≡ DirRefusal.NoMemory) }
+    ensures exact { MatchResult result (λ message. dir_refusal bytes.now ≡ None)
+        (λ refusal. (refusal ≡ DirRefusal.NoMemory) ⊎ (dir_refusal bytes.now ≡ Some refusal)) }
+    ensures children { (nodes : List Flat) → IsTree nodes → All IsNode nodes → what_at nodes [] ≡ Some what.Dir → bytes.now ≡ message_by dir_digest nodes
         → MatchResult result (λ read. read ≡ children_message_of nodes) (λ refusal. refusal ≡ DirRefusal.NoMemory) }
 {
     read_dir(alloc, bytes)

@@ -2,20 +2,20 @@ use Rattle.std.proofs.Common.{inl, inr, refl, sym, ◌∙◌, ◌++◌, map, ari
 use Rattle.std.proofs.lemmas.Result.{err_from_is_err_and}
 use Rattle.reapi_dir.specs.Grammar.{dir_name, file_name}
 use Rattle.reapi_dir.specs.Reading.{next_link_read}
-use Rattle.reapi_dir.proofs.Steps.{end_of, fault_of, many_of, more_of}
+use Rattle.reapi_dir.proofs.Steps.{list_ends, list_has_fault, list_is_full, list_goes_on}
 use Rattle.reapi_dir.proofs.read_list.read_links.Goals as goal
 
 pub returns-then-left-eq0-clause-err : goal.returns-then-left-eq0-clause-err
 returns-then-left-eq0-clause-err c =
     rw c.place.ensures
-    (inr (many_of 26 (next_link_read (map file_name c.args.files.now ++ map dir_name c.args.dirs.now)) _ c.links.left c.links.links.items c.args.end c.links.rest.now c.links.invariant.read c.if-left-eq0.true
+    (inr (list_is_full 26 (next_link_read (map file_name c.args.files.now ++ map dir_name c.args.dirs.now)) _ c.links.left c.links.links.items c.args.end c.links.rest.now c.links.invariant.read c.if-left-eq0.true
     (sym c.begins_with.ensures ∙ c.links-test.true)))
 
 pub returns-in_err-link-clause-err : goal.returns-in_err-link-clause-err
 returns-in_err-link-clause-err c =
     let p = err_from_is_err_and c.from_residual.result c.from_residual.ensures.1 in
     rw (p.1, p.2)
-    (fault_of 26 (next_link_read (map file_name c.args.files.now ++ map dir_name c.args.dirs.now)) _ c.links.left c.links.links.items c.args.end c.links.rest.now _ c.links.invariant.read c.if-left-eq0.false
+    (list_has_fault 26 (next_link_read (map file_name c.args.files.now ++ map dir_name c.args.dirs.now)) _ c.links.left c.links.links.items c.args.end c.links.rest.now _ c.links.invariant.read c.if-left-eq0.false
     (sym c.begins_with.ensures ∙ c.links-test.true) (rw c.as_slice.ensures.value at c.in_err-link.ensures.err))
 
 pub returns-in_err-push-clause-err : goal.returns-in_err-push-clause-err
@@ -25,11 +25,11 @@ returns-in_err-push-clause-err c =
 
 pub links-preserved : goal.links-preserved
 links-preserved c = record {
-  read = more_of 26 (next_link_read (map file_name c.args.files.now ++ map dir_name c.args.dirs.now)) _ c.links.left c.links.links.items c.args.end c.links.rest.now c.in_ok-link.link c.in_ok-link.behind.now _ c.links.invariant.read
+  read = list_goes_on 26 (next_link_read (map file_name c.args.files.now ++ map dir_name c.args.dirs.now)) _ c.links.left c.links.links.items c.args.end c.links.rest.now c.in_ok-link.link c.in_ok-link.behind.now _ c.links.invariant.read
       c.if-left-eq0.false (sym c.begins_with.ensures ∙ c.links-test.true) (rw c.as_slice.ensures.value at c.in_ok-link.ensures.ok) c.in_ok-push.ensures.items;
   within = omega (arith, c.in_ok-link.ensures.shorter, c.links.invariant.within);
 }
 
 pub returns-clause-ok : goal.returns-clause-ok
 returns-clause-ok c =
-    end_of 26 (next_link_read (map file_name c.args.files.now ++ map dir_name c.args.dirs.now)) _ c.links.left c.links.links.items c.args.end c.links.rest.now c.links.invariant.read (sym c.begins_with.ensures ∙ c.links-test.false)
+    list_ends 26 (next_link_read (map file_name c.args.files.now ++ map dir_name c.args.dirs.now)) _ c.links.left c.links.links.items c.args.end c.links.rest.now c.links.invariant.read (sym c.begins_with.ensures ∙ c.links-test.false)
