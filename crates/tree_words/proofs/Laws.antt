@@ -17,8 +17,7 @@ use Rattle.mat_tree.proofs.Refusals.{is_tree_no_refusal}
 use Rattle.tree_words.specs.declared.refusal.WordsRefusal.{WordsRefusal}
 use Rattle.tree_words.specs.declared.refusal.WordsRefusal.TheVariants as refusal
 use Rattle.tree_words.specs.Answers.{IsRefusalOf}
-use Rattle.tree_words.specs.Rests.{words_of}
-use Rattle.tree_words.specs.Words.{at_digest, at_kind, at_rel, at_target, digest_spelled, fitting, node_before, node_words, read_from, read_tree, small_digest, target_spelled, text_of, tree_of, tree_text, unless_refused, what_words}
+use Rattle.tree_words.specs.Words.{at_digest, at_kind, at_rel, at_target, digest_spelled, fitting, node_before, node_words, read_from, read_tree, small_digest, target_spelled, tree_of, tree_text, unless_refused, what_words}
 use Rattle.tree_words.proofs.Clear.{clear_nodes, words_of-text_of}
 use Rattle.tree_words.proofs.Texts.{node_before_some}
 

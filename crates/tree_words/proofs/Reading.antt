@@ -1,5 +1,5 @@
 -- What reading nodes, one after the other, rests on.
-use Rattle.std.proofs.Common.{◌≡◌, ℕ, ◌+◌, Bool, true, false, ◌&&◌, nat_le, if◌then◌else◌, List, [], ◌∷◌, ◌++◌, length, Option, Some, None, Result, Ok, Err, refl, sym, ◌∙◌, ap, ap₂, subst, arith, append-nil, append_assoc}
+use Rattle.std.proofs.Common.{◌≡◌, ℕ, ◌+◌, Bool, true, false, ◌&&◌, nat_le, if◌then◌else◌, List, [], ◌∷◌, ◌++◌, Option, Some, None, Result, Ok, Err, refl, sym, ◌∙◌, ap, ap₂, subst, append-nil, append_assoc}
 use Rattle.std.specs.List.{list_all}
 use Rattle.mat_digest.specs.Digests.{read_digest}
 use Rattle.mat_digest.specs.declared.digest.Digest.{Digest}
@@ -19,11 +19,6 @@ use Rattle.tree_words.specs.Words.{Place, Reading, at_digest, at_kind, at_rel, a
 abbrev pub nodes_before : List Flat → Reading → Reading
 nodes_before nodes (Ok more) = Ok (nodes ++ more)
 nodes_before nodes (Err k) = Err k
-
--- no node before a reading
-pub none_before : (reading : Reading) → reading ≡ nodes_before [] reading
-none_before (Ok nodes) = refl
-none_before (Err k) = refl
 
 -- one node more before a reading
 one_before : (nodes : List Flat) (node : Flat) (reading : Reading)

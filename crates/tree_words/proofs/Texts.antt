@@ -22,7 +22,7 @@ pub record IsSome (words : List (List ℕ)) : Type 0 where
   pub is : words ≡ head ∷ tail
 
 -- each node has a word
-pub some_words : (node : Flat) → IsSome (node_words node)
+some_words : (node : Flat) → IsSome (node_words node)
 some_words node = by_what node.what
   where
     by_what : (w : What) → IsSome (what_words w ++ rel_text node.rel ∷ [])

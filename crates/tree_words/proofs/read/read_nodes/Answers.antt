@@ -1,4 +1,4 @@
-use Rattle.std.proofs.Common.{◌≡◌, sym, ◌∙◌}
+use Rattle.std.proofs.Common.{sym, ◌∙◌}
 use Rattle.tree_words.specs.Rests.{words_of}
 use Rattle.tree_words.specs.Words.{at_kind, read_from}
 use Rattle.tree_words.proofs.Reading.{read_ends, read_grows, read_nodes_small}
