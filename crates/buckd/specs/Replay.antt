@@ -16,7 +16,7 @@ use Rattle.buckd.specs.declared.replay.Ending.TheVariants as ending
 use Rattle.buckd.specs.declared.session.Fed.{Fed}
 use Rattle.buckd.specs.declared.session.Fed.TheVariants as fed
 use Rattle.buckd.specs.declared.session.Session.{Session}
-use Rattle.script_lang.specs.Spelled.{same_word}
+use Rattle.mat_path.specs.Names.{same_name}
 use Rattle.buckd.specs.Causes.{AreCaused}
 use Rattle.buckd.specs.Legal.{IsLegalRun}
 use Rattle.buckd.specs.Lines.{before_end, has_end, script_lines, whole_lines}
@@ -248,7 +248,7 @@ input_limit = 4294967296
 abbrev pub is_replay : {Z : Type 0} → List (String Z) → Bool
 is_replay [] = false
 is_replay (verb ∷ []) = false
-is_replay (verb ∷ workers ∷ []) = same_word (string_bytes verb) (codes "replay") && same_word (string_bytes workers) (codes "1")
+is_replay (verb ∷ workers ∷ []) = same_name (string_bytes verb) (codes "replay") && same_name (string_bytes workers) (codes "1")
 is_replay (verb ∷ workers ∷ word ∷ words) = false
 
 -- the statuses of words that ask for it, and of others

@@ -11,7 +11,7 @@ use Rattle.mat_digest.specs.Digests.{IsDigest, digest_text, is_lower_digit}
 use Rattle.mat_digest.specs.declared.digest.Digest.{Digest}
 use Rattle.mat_digest.proofs.Hashes.{AllPass-encode_lower}
 use Rattle.mat_digest.proofs.Laws.{read_digest-digest_text}
-use Rattle.mat_path.specs.Names.{joined, path_of}
+use Rattle.mat_path.specs.Names.{joined, path_of, same_name}
 use Rattle.mat_path.proofs.ReadLemmas.{read_back}
 use Rattle.mat_model.specs.declared.answers.Device.{Device}
 use Rattle.mat_model.specs.declared.answers.Device.TheVariants as device
@@ -26,9 +26,9 @@ use Rattle.mat_tree.specs.declared.sum.Sum.{Sum}
 use Rattle.mat_tree.specs.Trees.{IsNode, IsTree, is_placed}
 use Rattle.tree_words.specs.Rests.{words_of}
 use Rattle.tree_words.specs.Words.{at_kind, node_words, read_from, text_of, tree_of}
-use Rattle.tree_words.proofs.Clear.{IsClear, clear_nodes, words_back}
-use Rattle.tree_words.proofs.Laws.{tree_back}
-use Rattle.tree_words.proofs.Texts.{IsSome, some_more}
+use Rattle.tree_words.proofs.Clear.{clear_nodes, words_of-text_of}
+use Rattle.tree_words.proofs.Laws.{read_tree-tree_text}
+use Rattle.tree_words.proofs.Texts.{IsSome, node_before_some}
 use Rattle.script_lang.specs.declared.items.Item.{Item}
 use Rattle.script_lang.specs.declared.items.Item.TheVariants as item
 use Rattle.script_lang.specs.declared.items.Line.TheVariants as line
@@ -37,16 +37,16 @@ use Rattle.script_lang.specs.declared.items.Pick.TheVariants as pick
 use Rattle.script_lang.specs.Bounds.{HasBounds, HasRequestBounds}
 use Rattle.script_lang.specs.Items.{a_sum, item_of, placed, with_one, with_three, with_two}
 use Rattle.script_lang.specs.Lines.{is_end, is_skipped, item_line, line_limit, line_of}
-use Rattle.script_lang.specs.Spelled.{bytes_of, device_of, digest_of, is_hex, kind_of, mode_of, pick_of, same_word, tree_spelled}
+use Rattle.script_lang.specs.Spelled.{bytes_of, device_of, digest_of, is_hex, kind_of, mode_of, pick_of, tree_spelled}
 use Rattle.script_lang.specs.Texts.{device_text, kind_text}
 use Rattle.script_lang.specs.Written.{IsItem, IsRequest, bytes_word, item_text, item_words, mode_text, pick_text, request_words}
 use Rattle.script_lang.proofs.ClearLemmas.{clear_item}
-use Rattle.script_lang.proofs.NumberLemmas.{command_back, count_back, moment_back, place_back, worker_back}
+use Rattle.script_lang.proofs.NumberLemmas.{command_of-decimal, count_of-decimal, moment_of-decimal, place_of-decimal, worker_of-decimal}
 
 -- ---- single words
 
 -- two digits are no `-`
-no_dash : (b : ℕ) (bytes : List ℕ) → same_word (encode_lower (b ∷ bytes)) (codes "-") ≡ false
+no_dash : (b : ℕ) (bytes : List ℕ) → same_name (encode_lower (b ∷ bytes)) (codes "-") ≡ false
 unfolding encode_with
 no_dash b bytes = and_right _ false refl
 
@@ -96,19 +96,13 @@ sum_back sum h = ap₂ (λ (k : Option Kind) (d : Option Digest). with_two a_sum
 
 -- ---- trees
 
--- a text of words is cut into these words
-text_back : (words : List (List ℕ)) → IsSome words → All IsClear words → words_of (text_of words) ≡ words
-text_back words some clear =
-    subst (λ (ws : List (List ℕ)). words_of (text_of ws) ≡ ws) (sym some.is)
-    (words_back some.head some.tail (subst (λ (ws : List (List ℕ)). All IsClear ws) some.is clear))
-
 -- the words of a tree spell it
 spelled_back : (tree : List Flat) → IsTree tree → All IsNode tree → tree_spelled (flat_map node_words tree) ≡ Some tree
-spelled_back [] h held = absurd (let e : false ≡ true = h.root in cc)
-spelled_back (node ∷ nodes) h held =
+spelled_back [] h each = absurd (let e : false ≡ true = h.root in cc)
+spelled_back (node ∷ nodes) h each =
     ap (λ (ws : List (List ℕ)). result_ok (tree_of (read_from at_kind 0 ws)))
-    (sym (text_back (flat_map node_words (node ∷ nodes)) (some_more node (flat_map node_words nodes)) (clear_nodes (node ∷ nodes) held h.rels)))
-    ∙ ap result_ok (tree_back (node ∷ nodes) h held)
+    (sym (words_of-text_of (flat_map node_words (node ∷ nodes)) (node_before_some node (flat_map node_words nodes)) (clear_nodes (node ∷ nodes) each h.rels)))
+    ∙ ap result_ok (read_tree-tree_text (node ∷ nodes) h each)
 
 placed_back : (path : List (List ℕ)) (tree : List Flat) (o : Option (List (List ℕ))) (t : Option (List Flat)) → o ≡ Some path → t ≡ Some tree
     → list_all (is_placed path) tree ≡ true → placed o t ≡ Some tree
@@ -132,40 +126,40 @@ asked_back o asked h = ap (with_one item.Request) h
 request_back : (workers : ℕ) (asked : Request) → IsRequest asked → HasRequestBounds asked
     → item_of workers (request_words asked) ≡ Some (item.Request asked)
 request_back workers (request.Enter command state) h fits =
-    asked_back _ _ (two_back request.Enter _ _ command state (command_back command h.0) (count_back state h.1))
-request_back workers (request.Leave command) h fits = asked_back _ _ (ap (with_one request.Leave) (command_back command h))
+    asked_back _ _ (two_back request.Enter _ _ command state (command_of-decimal command h.0) (count_of-decimal state h.1))
+request_back workers (request.Leave command) h fits = asked_back _ _ (ap (with_one request.Leave) (command_of-decimal command h))
 request_back workers (request.Write command path bytes) h fits =
-    asked_back _ _ (three_back request.Write _ _ _ command path bytes (command_back command h.0.number_fits) (read_back path h.0.names_fit) (bytes_back bytes h.1))
+    asked_back _ _ (three_back request.Write _ _ _ command path bytes (command_of-decimal command h.0.number_fits) (read_back path h.0.names_fit) (bytes_back bytes h.1))
 request_back workers (request.Declare command path tree) h fits =
     let names : path_of (joined path) ≡ Some path = read_back path h.0.names_fit in
     asked_back _ _
-    (three_back request.Declare _ _ _ command path tree (command_back command h.0.number_fits) names
+    (three_back request.Declare _ _ _ command path tree (command_of-decimal command h.0.number_fits) names
     (placed_back path tree _ _ names (spelled_back tree h.1 h.2) fits))
 request_back workers (request.Copy command path source) h fits =
-    asked_back _ _ (three_back request.Copy _ _ _ command path source (command_back command h.0.number_fits) (read_back path h.0.names_fit) (read_back source h.1))
+    asked_back _ _ (three_back request.Copy _ _ _ command path source (command_of-decimal command h.0.number_fits) (read_back path h.0.names_fit) (read_back source h.1))
 request_back workers (request.Matches command path sum) h fits =
-    asked_back _ _ (three_back request.Matches _ _ _ command path sum (command_back command h.0.number_fits) (read_back path h.0.names_fit) (sum_back sum h.1))
+    asked_back _ _ (three_back request.Matches _ _ _ command path sum (command_of-decimal command h.0.number_fits) (read_back path h.0.names_fit) (sum_back sum h.1))
 request_back workers (request.Has command path) h fits =
-    asked_back _ _ (two_back request.Has _ _ command path (command_back command h.number_fits) (read_back path h.names_fit))
+    asked_back _ _ (two_back request.Has _ _ command path (command_of-decimal command h.number_fits) (read_back path h.names_fit))
 request_back workers (request.Ensure command path) h fits =
-    asked_back _ _ (two_back request.Ensure _ _ command path (command_back command h.number_fits) (read_back path h.names_fit))
+    asked_back _ _ (two_back request.Ensure _ _ command path (command_of-decimal command h.number_fits) (read_back path h.names_fit))
 request_back workers (request.Invalidate command path) h fits =
-    asked_back _ _ (two_back request.Invalidate _ _ command path (command_back command h.number_fits) (read_back path h.names_fit))
+    asked_back _ _ (two_back request.Invalidate _ _ command path (command_of-decimal command h.number_fits) (read_back path h.names_fit))
 request_back workers (request.Clean cutoff mode) h fits =
-    asked_back _ _ (two_back request.Clean _ _ cutoff mode (moment_back cutoff fits) (mode_back mode))
+    asked_back _ _ (two_back request.Clean _ _ cutoff mode (moment_of-decimal cutoff fits) (mode_back mode))
 request_back workers request.Flush h fits = refl
 
 item_back : (workers : ℕ) (it : Item) → IsItem it → HasBounds workers it → item_of workers (item_words it) ≡ Some it
 item_back workers (item.Request asked) h fits = request_back workers asked h fits
 item_back workers (item.Blob bytes) h fits = ap (with_one item.Blob) (bytes_back bytes h)
 item_back workers (item.Lie digest bytes) h fits = two_back item.Lie _ _ digest bytes (digest_back digest h.0) (bytes_back bytes h.1)
-item_back workers (item.At moment) h fits = ap (with_one item.At) (moment_back moment fits)
-item_back workers (item.Step worker) h fits = ap (with_one item.Step) (worker_back workers worker fits h)
+item_back workers (item.At moment) h fits = ap (with_one item.At) (moment_of-decimal moment fits)
+item_back workers (item.Step worker) h fits = ap (with_one item.Step) (worker_of-decimal workers worker fits h)
 item_back workers item.Drain h fits = refl
 item_back workers (item.Show path) h fits = ap (with_one item.Show) (read_back path h)
 item_back workers item.Asks h fits = refl
-item_back workers (item.Fail device k) h fits = two_back item.Fail _ _ device k (device_back device) (place_back k fits h)
-item_back workers (item.Stop k pick) h fits = two_back item.Stop _ _ k pick (count_back k h) (pick_back pick)
+item_back workers (item.Fail device k) h fits = two_back item.Fail _ _ device k (device_back device) (place_of-decimal k fits h)
+item_back workers (item.Stop k pick) h fits = two_back item.Stop _ _ k pick (count_of-decimal k h) (pick_back pick)
 item_back workers item.Restart h fits = refl
 
 -- ---- lines
@@ -238,10 +232,10 @@ line_says workers text it fits spoken words =
     ∙ ap item_line words
 
 -- what is written of an item is read as that item
-pub line_back : (workers : ℕ) (it : Item) (text : List ℕ) → text ≡ item_text it → IsItem it → HasBounds workers it → length text ≤ line_limit
+pub line_of-item_text : (workers : ℕ) (it : Item) (text : List ℕ) → text ≡ item_text it → IsItem it → HasBounds workers it → length text ≤ line_limit
     → line_of workers text ≡ line.Item it
-line_back workers it text same h bounds fits =
-    let words : words_of (item_text it) ≡ item_words it = text_back (item_words it) (some_item it) (clear_item it h) in
+line_of-item_text workers it text same h bounds fits =
+    let words : words_of (item_text it) ≡ item_words it = words_of-text_of (item_words it) (some_item it) (clear_item it h) in
     subst (λ (t : List ℕ). line_of workers t ≡ line.Item it) (sym same)
     (line_says workers (item_text it) it (subst (λ (t : List ℕ). length t ≤ line_limit) same fits) (spoken_item it)
     (ap (item_of workers) words ∙ item_back workers it h bounds))

@@ -23,18 +23,13 @@ use Rattle.mat_model.specs.declared.requests.Request.TheVariants as request
 use Rattle.mat_tree.specs.declared.sum.Kind.{Kind}
 use Rattle.mat_tree.specs.declared.sum.Kind.TheVariants as kind
 use Rattle.tree_words.specs.Rests.{is_space}
-use Rattle.tree_words.proofs.Clear.{IsClear, clear_nodes}
+use Rattle.tree_words.proofs.Clear.{IsClear, IsClearByte, clear_decimal, clear_digest, clear_joined, clear_lower, clear_nodes}
 use Rattle.script_lang.specs.declared.items.Item.{Item}
 use Rattle.script_lang.specs.declared.items.Item.TheVariants as item
 use Rattle.script_lang.specs.declared.items.Pick.{Pick}
 use Rattle.script_lang.specs.declared.items.Pick.TheVariants as pick
 use Rattle.script_lang.specs.Texts.{device_text, kind_text}
 use Rattle.script_lang.specs.Written.{IsAddressed, IsItem, IsRequest, bytes_word, item_words, mode_text, pick_text, request_words}
-use Rattle.script_lang.proofs.NumberLemmas.{digits_model}
-
--- a byte that is no space
-abbrev IsClearByte : ℕ → Type 0
-IsClearByte b = is_space b ≡ false
 
 -- ---- single words
 
@@ -49,19 +44,8 @@ clear_given : (word : List ℕ) → list_all not_space word ≡ true → IsClear
 clear_given word h =
     All-weaker (λ (b : ℕ). not_space b ≡ true) IsClearByte clear_test word (AllPass-from_list_all not_space word h)
 
-clear_digit : (b : ℕ) → is_ascii_digit b ≡ true → IsClearByte b
-clear_digit b h = grind (arith, nat_tests)
-
-clear_decimal : (n : ℕ) → n < 2 ^ 64 → IsClear (decimal n)
-clear_decimal n h =
-    All-weaker (λ (b : ℕ). is_ascii_digit b ≡ true) IsClearByte clear_digit (decimal n)
-    (AllPass-from_list_all is_ascii_digit (decimal n) (digits_decimal digits_model n h))
-
 clear_command : (n : ℕ) → n < 2 ^ 32 → IsClear (decimal n)
 clear_command n h = clear_decimal n (omega arith)
-
-clear_lower : (b : ℕ) → is_lower_digit b ≡ true → IsClearByte b
-clear_lower b h = grind (arith, nat_tests)
 
 clear_hex : (bytes : List ℕ) → IsBytes bytes → IsClear (encode_lower bytes)
 clear_hex bytes h = All-weaker (λ (b : ℕ). is_lower_digit b ≡ true) IsClearByte clear_lower (encode_lower bytes) (AllPass-encode_lower bytes h)
@@ -69,30 +53,6 @@ clear_hex bytes h = All-weaker (λ (b : ℕ). is_lower_digit b ≡ true) IsClear
 clear_bytes : (bytes : List ℕ) → IsBytes bytes → IsClear (bytes_word bytes)
 clear_bytes [] h = clear_given (codes "-") refl
 clear_bytes (b ∷ bytes) h = clear_hex (b ∷ bytes) h
-
-clear_digest : (d : Digest) → IsDigest d → IsClear (digest_text d)
-clear_digest d h =
-    All-append IsClearByte (hash_text d) (58 ∷ decimal d.size) (clear_hex d.hash h.hash_bytes)
-    (All-cons IsClearByte 58 (decimal d.size) refl (clear_decimal d.size h.size_fits))
-
-clear_name_byte : (b : ℕ) → is_name_byte b ≡ true → IsClearByte b
-clear_name_byte b h = clear_text b (and_parts (is_text_byte b) _ h).0
-  where
-    clear_text : (b : ℕ) → is_text_byte b ≡ true → IsClearByte b
-    clear_text b h = grind (arith, nat_tests)
-
-clear_name : (name : List ℕ) → is_name name ≡ true → IsClear name
-clear_name name h =
-    All-weaker (λ (b : ℕ). is_name_byte b ≡ true) IsClearByte clear_name_byte name
-    (AllPass-from_list_all is_name_byte name (and_parts _ (list_all is_name_byte name) (and_parts _ _ h).0).1)
-
-clear_joined : (names : List (List ℕ)) → list_all is_name names ≡ true → IsClear (joined names)
-clear_joined [] h = All-nil IsClearByte
-clear_joined (name ∷ []) h = clear_name name (and_parts _ _ h).0
-clear_joined (name ∷ next ∷ names) h =
-    let all = and_parts (is_name name) (list_all is_name (next ∷ names)) h in
-    All-append IsClearByte name (47 ∷ joined (next ∷ names)) (clear_name name all.0)
-    (All-cons IsClearByte 47 (joined (next ∷ names)) refl (clear_joined (next ∷ names) all.1))
 
 clear_path : (path : List (List ℕ)) → is_path path ≡ true → IsClear (joined path)
 clear_path path h = clear_joined path (names_of_path path h)
@@ -159,6 +119,7 @@ clear_request (request.Clean cutoff mode) h =
     (more (decimal cutoff) (mode_text mode ∷ []) (clear_decimal cutoff h) (one (mode_text mode) (clear_mode mode)))
 clear_request request.Flush h = one (codes "flush") (clear_given (codes "flush") refl)
 
+-- no word of an item has a space
 pub clear_item : (it : Item) → IsItem it → All IsClear (item_words it)
 clear_item (item.Request asked) h = clear_request asked h
 clear_item (item.Blob bytes) h =

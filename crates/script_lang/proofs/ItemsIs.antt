@@ -7,7 +7,7 @@ use Rattle.std.proofs.lemmas.List.Splits.{join_with_byte-slice_split}
 use Rattle.mat_digest.specs.Digests.{digest_text, read_digest}
 use Rattle.mat_digest.specs.declared.digest.Digest.{Digest}
 use Rattle.mat_digest.specs.declared.digest.DigestRefusal.{DigestRefusal}
-use Rattle.mat_path.specs.Names.{is_path, is_target, joined, path_of, pieces, rel_of, rel_text}
+use Rattle.mat_path.specs.Names.{is_path, is_target, joined, path_of, pieces, rel_of, rel_text, same_name}
 use Rattle.mat_model.specs.declared.requests.Request.{Request}
 use Rattle.mat_model.specs.declared.requests.Request.TheVariants as request
 use Rattle.mat_tree.specs.declared.flat.Flat.{Flat}
@@ -15,7 +15,7 @@ use Rattle.mat_tree.specs.declared.flat.What.TheVariants as what
 use Rattle.mat_tree.specs.declared.refusal.TreeRefusal.{TreeRefusal}
 use Rattle.mat_tree.specs.declared.sum.Sum.{Sum}
 use Rattle.mat_tree.specs.Trees.{is_placed, tree_refusal}
-use Rattle.tree_words.specs.Rests.{words_of}
+use Rattle.tree_words.specs.Rests.{none_of, words_of}
 use Rattle.tree_words.specs.Words.{Place, Reading, at_digest, at_kind, at_rel, at_target, behind_kind, digest_spelled, file_word, fitting, node_before, node_words, read_from, small_digest, text_of, tree_of, unless_refused, what_words}
 use Rattle.script_lang.specs.declared.items.Item.{Item}
 use Rattle.script_lang.specs.declared.items.Item.TheVariants as item
@@ -23,27 +23,27 @@ use Rattle.script_lang.specs.declared.verbs.Asking.{Asking}
 use Rattle.script_lang.specs.declared.verbs.Asking.TheVariants as asking
 use Rattle.script_lang.specs.declared.verbs.Doing.{Doing}
 use Rattle.script_lang.specs.declared.verbs.Doing.TheVariants as doing
-use Rattle.script_lang.specs.Items.{Word, a_sum, at_of, blob_of, clean_of, copy_of, declare_of, enter_of, ensure_of, fail_of, four_of, has_of, invalidate_of, item_behind, item_of, leave_of, lie_of, match_of, none_of, one_of, other_of, placed, request_of, show_of, step_of, stop_of, three_of, two_and_more_of, two_of, with_two, write_of}
-use Rattle.script_lang.specs.Spelled.{command_of, digest_of, kind_of, same_word, tree_spelled}
+use Rattle.script_lang.specs.Items.{Word, a_sum, at_of, blob_of, clean_of, copy_of, declare_of, enter_of, ensure_of, fail_of, four_of, has_of, invalidate_of, item_behind, item_of, leave_of, lie_of, match_of, one_of, other_of, placed, request_of, show_of, step_of, stop_of, three_of, two_and_more_of, two_of, with_two, write_of}
+use Rattle.script_lang.specs.Spelled.{command_of, digest_of, kind_of, tree_spelled}
 use Rattle.script_lang.specs.Texts.{kind_text}
 use Rattle.script_lang.specs.Verbs.{asking_of, doing_of}
 use Rattle.script_lang.specs.Written.{bytes_word, item_text, item_words, request_words}
-use Rattle.script_lang.proofs.BoundsLemmas.{one_parts, three_parts, two_parts}
-use Rattle.script_lang.proofs.SpelledIs.{by_first, bytes_is, command_is, count_is, device_is, digest_is, kind_is, mode_is, moment_is, path_is, pick_is, place_is, same_is, worker_is}
+use Rattle.script_lang.proofs.BoundsLemmas.{parts_of_one, parts_of_three, parts_of_two}
+use Rattle.script_lang.proofs.SpelledIs.{text_by_first, bytes_word-bytes_of, decimal-command_of, decimal-count_of, device_text-device_of, digest_text-digest_of, kind_text-kind_of, mode_text-mode_of, decimal-moment_of, joined-path_of, pick_text-pick_of, decimal-place_of, equal_if_same_name, decimal-worker_of}
 
 -- ---- trees
 
 rel_is : (w : List ℕ) (rel : List (List ℕ)) → rel_of w ≡ Some rel → w ≡ rel_text rel
-rel_is w rel h = by_first rel_text w (46 ∷ []) [] rel (path_of w) refl (λ e. by_names rel e) h
+rel_is w rel h = text_by_first rel_text w (46 ∷ []) [] rel (path_of w) refl (λ e. by_names rel e) h
   where
     -- a path has a name
     empty : (t : Bool) (names : List (List ℕ)) → is_path names ≡ t → (if t then Some names else None) ≡ Some [] → ⊥
-    empty true names e same = let none : [] ≡ names = cc in let held : is_path [] ≡ true = subst (λ (ns : List (List ℕ)). is_path ns ≡ true) (sym none) e in cc
+    empty true names e same = let none : [] ≡ names = cc in let named : is_path [] ≡ true = subst (λ (ns : List (List ℕ)). is_path ns ≡ true) (sym none) e in cc
     empty false names e same = cc
 
     by_names : (names : List (List ℕ)) → path_of w ≡ Some names → w ≡ rel_text names
     by_names [] e = absurd (empty (is_path (pieces w)) (pieces w) refl e)
-    by_names (name ∷ names) e = path_is w (name ∷ names) e
+    by_names (name ∷ names) e = joined-path_of w (name ∷ names) e
 
 -- the words that stand before a place of a node
 abbrev words_before : Place → List Word
@@ -62,14 +62,14 @@ writes [] (at_digest exec) k nodes read = absurd cc
 writes [] at_target k nodes read = absurd cc
 writes [] (at_rel w) k nodes read = absurd cc
 writes (word ∷ words) at_kind k nodes read =
-    by_test (λ o. fitting k o (λ kind. read_from (behind_kind kind) (k + 1) words)) _ _ (same_word word (codes "f")) (λ test e. begun (codes "f") test (writes words (at_digest false) (k + 1) nodes e))
-    (λ f. by_test (λ o. fitting k o (λ kind. read_from (behind_kind kind) (k + 1) words)) _ _ (same_word word (codes "x")) (λ test e. begun (codes "x") test (writes words (at_digest true) (k + 1) nodes e))
-    (λ x. by_test (λ o. fitting k o (λ kind. read_from (behind_kind kind) (k + 1) words)) _ _ (same_word word (codes "l")) (λ test e. begun (codes "l") test (writes words at_target (k + 1) nodes e))
-    (λ l. by_test (λ o. fitting k o (λ kind. read_from (behind_kind kind) (k + 1) words)) _ _ (same_word word (codes "d")) (λ test e. begun (codes "d") test (writes words (at_rel what.Dir) (k + 1) nodes e))
+    by_test (λ o. fitting k o (λ kind. read_from (behind_kind kind) (k + 1) words)) _ _ (same_name word (codes "f")) (λ test e. begun (codes "f") test (writes words (at_digest false) (k + 1) nodes e))
+    (λ f. by_test (λ o. fitting k o (λ kind. read_from (behind_kind kind) (k + 1) words)) _ _ (same_name word (codes "x")) (λ test e. begun (codes "x") test (writes words (at_digest true) (k + 1) nodes e))
+    (λ x. by_test (λ o. fitting k o (λ kind. read_from (behind_kind kind) (k + 1) words)) _ _ (same_name word (codes "l")) (λ test e. begun (codes "l") test (writes words at_target (k + 1) nodes e))
+    (λ l. by_test (λ o. fitting k o (λ kind. read_from (behind_kind kind) (k + 1) words)) _ _ (same_name word (codes "d")) (λ test e. begun (codes "d") test (writes words (at_rel what.Dir) (k + 1) nodes e))
     (λ d. absurd cc) l) x) f) read
   where
-    begun : (given : Word) → same_word word given ≡ true → flat_map node_words nodes ≡ given ∷ words → flat_map node_words nodes ≡ word ∷ words
-    begun given test e = e ∙ ap (λ (w : Word). w ∷ words) (sym (same_is word given test))
+    begun : (given : Word) → same_name word given ≡ true → flat_map node_words nodes ≡ given ∷ words → flat_map node_words nodes ≡ word ∷ words
+    begun given test e = e ∙ ap (λ (w : Word). w ∷ words) (sym (equal_if_same_name word given test))
 
     by_test : {K : Type 0} (go : Option K → Reading) (a : K) (rest : Option K) (t : Bool) → (t ≡ true → go (Some a) ≡ Ok nodes → flat_map node_words nodes ≡ word ∷ words)
         → (go rest ≡ Ok nodes → flat_map node_words nodes ≡ word ∷ words) → go (if t then Some a else rest) ≡ Ok nodes → flat_map node_words nodes ≡ word ∷ words
@@ -90,7 +90,7 @@ writes (word ∷ words) (at_digest exec) k nodes read = by_digest (writes words)
     by_digest rest None is e = absurd cc
     by_digest rest (Some d) is e =
         rest (at_rel (what.File d exec)) (k + 1) nodes e
-        ∙ ap (λ (w : Word). file_word exec ∷ w ∷ words) (sym (digest_is word d (small_is (read_digest word) d is)))
+        ∙ ap (λ (w : Word). file_word exec ∷ w ∷ words) (sym (digest_text-digest_of word d (small_is (read_digest word) d is)))
 writes (word ∷ words) at_target k nodes read = by_target (writes words) (is_target word) read
   where
     by_target : Writes words → (t : Bool) → fitting k (if t then Some word else None) (λ d. read_from (at_rel (what.Link d)) (k + 1) words) ≡ Ok nodes
@@ -170,61 +170,61 @@ more_is (a ∷ b ∷ more) p h = ap (λ (q : Word × Word × List Word). q.0 ∷
 enter_words : (ws : List Word) (o : Option (Word × Word)) (r : Request) → two_of ws ≡ o → enter_of o ≡ Some r → request_words r ≡ codes "enter" ∷ ws
 enter_words ws None r is h = absurd cc
 enter_words ws (Some w) r is h =
-    let got = two_parts request.Enter _ _ r h in
-    ap request_words (sym got.4) ∙ ap₂ (λ (a b : Word). codes "enter" ∷ a ∷ b ∷ []) (sym (command_is w.0 got.0 got.2)) (sym (count_is w.1 got.1 got.3))
+    let got = parts_of_two request.Enter _ _ r h in
+    ap request_words (sym got.4) ∙ ap₂ (λ (a b : Word). codes "enter" ∷ a ∷ b ∷ []) (sym (decimal-command_of w.0 got.0 got.2)) (sym (decimal-count_of w.1 got.1 got.3))
     ∙ ap (λ (l : List Word). codes "enter" ∷ l) (sym (two_is ws w is))
 
 has_words : (ws : List Word) (o : Option (Word × Word)) (r : Request) → two_of ws ≡ o → has_of o ≡ Some r → request_words r ≡ codes "has" ∷ ws
 has_words ws None r is h = absurd cc
 has_words ws (Some w) r is h =
-    let got = two_parts request.Has _ _ r h in
-    ap request_words (sym got.4) ∙ ap₂ (λ (a b : Word). codes "has" ∷ a ∷ b ∷ []) (sym (command_is w.0 got.0 got.2)) (sym (path_is w.1 got.1 got.3))
+    let got = parts_of_two request.Has _ _ r h in
+    ap request_words (sym got.4) ∙ ap₂ (λ (a b : Word). codes "has" ∷ a ∷ b ∷ []) (sym (decimal-command_of w.0 got.0 got.2)) (sym (joined-path_of w.1 got.1 got.3))
     ∙ ap (λ (l : List Word). codes "has" ∷ l) (sym (two_is ws w is))
 
 ensure_words : (ws : List Word) (o : Option (Word × Word)) (r : Request) → two_of ws ≡ o → ensure_of o ≡ Some r → request_words r ≡ codes "ensure" ∷ ws
 ensure_words ws None r is h = absurd cc
 ensure_words ws (Some w) r is h =
-    let got = two_parts request.Ensure _ _ r h in
-    ap request_words (sym got.4) ∙ ap₂ (λ (a b : Word). codes "ensure" ∷ a ∷ b ∷ []) (sym (command_is w.0 got.0 got.2)) (sym (path_is w.1 got.1 got.3))
+    let got = parts_of_two request.Ensure _ _ r h in
+    ap request_words (sym got.4) ∙ ap₂ (λ (a b : Word). codes "ensure" ∷ a ∷ b ∷ []) (sym (decimal-command_of w.0 got.0 got.2)) (sym (joined-path_of w.1 got.1 got.3))
     ∙ ap (λ (l : List Word). codes "ensure" ∷ l) (sym (two_is ws w is))
 
 invalidate_words : (ws : List Word) (o : Option (Word × Word)) (r : Request) → two_of ws ≡ o → invalidate_of o ≡ Some r → request_words r ≡ codes "invalidate" ∷ ws
 invalidate_words ws None r is h = absurd cc
 invalidate_words ws (Some w) r is h =
-    let got = two_parts request.Invalidate _ _ r h in
-    ap request_words (sym got.4) ∙ ap₂ (λ (a b : Word). codes "invalidate" ∷ a ∷ b ∷ []) (sym (command_is w.0 got.0 got.2)) (sym (path_is w.1 got.1 got.3))
+    let got = parts_of_two request.Invalidate _ _ r h in
+    ap request_words (sym got.4) ∙ ap₂ (λ (a b : Word). codes "invalidate" ∷ a ∷ b ∷ []) (sym (decimal-command_of w.0 got.0 got.2)) (sym (joined-path_of w.1 got.1 got.3))
     ∙ ap (λ (l : List Word). codes "invalidate" ∷ l) (sym (two_is ws w is))
 
 clean_words : (ws : List Word) (o : Option (Word × Word)) (r : Request) → two_of ws ≡ o → clean_of o ≡ Some r → request_words r ≡ codes "clean" ∷ ws
 clean_words ws None r is h = absurd cc
 clean_words ws (Some w) r is h =
-    let got = two_parts request.Clean _ _ r h in
-    ap request_words (sym got.4) ∙ ap₂ (λ (a b : Word). codes "clean" ∷ a ∷ b ∷ []) (sym (moment_is w.0 got.0 got.2)) (sym (mode_is w.1 got.1 got.3))
+    let got = parts_of_two request.Clean _ _ r h in
+    ap request_words (sym got.4) ∙ ap₂ (λ (a b : Word). codes "clean" ∷ a ∷ b ∷ []) (sym (decimal-moment_of w.0 got.0 got.2)) (sym (mode_text-mode_of w.1 got.1 got.3))
     ∙ ap (λ (l : List Word). codes "clean" ∷ l) (sym (two_is ws w is))
 
 leave_words : (ws : List Word) (o : Option Word) (r : Request) → one_of ws ≡ o → leave_of o ≡ Some r → request_words r ≡ codes "leave" ∷ ws
 leave_words ws None r is h = absurd cc
 leave_words ws (Some w) r is h =
-    let got = one_parts request.Leave _ r h in
-    ap request_words (sym got.2) ∙ ap (λ (a : Word). codes "leave" ∷ a ∷ []) (sym (command_is w got.0 got.1))
+    let got = parts_of_one request.Leave _ r h in
+    ap request_words (sym got.2) ∙ ap (λ (a : Word). codes "leave" ∷ a ∷ []) (sym (decimal-command_of w got.0 got.1))
     ∙ ap (λ (l : List Word). codes "leave" ∷ l) (sym (one_is ws w is))
 
 write_words : (ws : List Word) (o : Option (Word × Word × Word)) (r : Request) → three_of ws ≡ o → write_of o ≡ Some r → request_words r ≡ codes "write" ∷ ws
 write_words ws None r is h = absurd cc
 write_words ws (Some w) r is h =
-    let got = three_parts request.Write _ _ _ r h in
+    let got = parts_of_three request.Write _ _ _ r h in
     ap request_words (sym got.6)
-    ∙ ap₂ (λ (a b : Word). codes "write" ∷ a ∷ b ∷ bytes_word got.2 ∷ []) (sym (command_is w.0 got.0 got.3)) (sym (path_is w.1 got.1 got.4))
-    ∙ ap (λ (a : Word). codes "write" ∷ w.0 ∷ w.1 ∷ a ∷ []) (sym (bytes_is w.2 got.2 got.5))
+    ∙ ap₂ (λ (a b : Word). codes "write" ∷ a ∷ b ∷ bytes_word got.2 ∷ []) (sym (decimal-command_of w.0 got.0 got.3)) (sym (joined-path_of w.1 got.1 got.4))
+    ∙ ap (λ (a : Word). codes "write" ∷ w.0 ∷ w.1 ∷ a ∷ []) (sym (bytes_word-bytes_of w.2 got.2 got.5))
     ∙ ap (λ (l : List Word). codes "write" ∷ l) (sym (three_is ws w is))
 
 copy_words : (ws : List Word) (o : Option (Word × Word × Word)) (r : Request) → three_of ws ≡ o → copy_of o ≡ Some r → request_words r ≡ codes "copy" ∷ ws
 copy_words ws None r is h = absurd cc
 copy_words ws (Some w) r is h =
-    let got = three_parts request.Copy _ _ _ r h in
+    let got = parts_of_three request.Copy _ _ _ r h in
     ap request_words (sym got.6)
-    ∙ ap₂ (λ (a b : Word). codes "copy" ∷ a ∷ b ∷ joined got.2 ∷ []) (sym (command_is w.0 got.0 got.3)) (sym (path_is w.1 got.1 got.4))
-    ∙ ap (λ (a : Word). codes "copy" ∷ w.0 ∷ w.1 ∷ a ∷ []) (sym (path_is w.2 got.2 got.5))
+    ∙ ap₂ (λ (a b : Word). codes "copy" ∷ a ∷ b ∷ joined got.2 ∷ []) (sym (decimal-command_of w.0 got.0 got.3)) (sym (joined-path_of w.1 got.1 got.4))
+    ∙ ap (λ (a : Word). codes "copy" ∷ w.0 ∷ w.1 ∷ a ∷ []) (sym (joined-path_of w.2 got.2 got.5))
     ∙ ap (λ (l : List Word). codes "copy" ∷ l) (sym (three_is ws w is))
 
 placed_is : (o : Option (List (List ℕ))) (t : Option (List Flat)) (tree : List Flat) → placed o t ≡ Some tree → t ≡ Some tree
@@ -240,25 +240,25 @@ declare_words : (ws : List Word) (o : Option (Word × Word × List Word)) (r : R
     → request_words r ≡ codes "declare" ∷ ws
 declare_words ws None r is h = absurd cc
 declare_words ws (Some w) r is h =
-    let got = three_parts request.Declare (command_of w.0) (path_of w.1) (placed (path_of w.1) (tree_spelled w.2)) r h in
+    let got = parts_of_three request.Declare (command_of w.0) (path_of w.1) (placed (path_of w.1) (tree_spelled w.2)) r h in
     ap request_words (sym got.6)
-    ∙ ap₂ (λ (a b : Word). codes "declare" ∷ a ∷ b ∷ flat_map node_words got.2) (sym (command_is w.0 got.0 got.3)) (sym (path_is w.1 got.1 got.4))
+    ∙ ap₂ (λ (a b : Word). codes "declare" ∷ a ∷ b ∷ flat_map node_words got.2) (sym (decimal-command_of w.0 got.0 got.3)) (sym (joined-path_of w.1 got.1 got.4))
     ∙ ap (λ (l : List Word). codes "declare" ∷ w.0 ∷ w.1 ∷ l) (tree_is w.2 got.2 (placed_is (path_of w.1) (tree_spelled w.2) got.2 got.5))
     ∙ ap (λ (l : List Word). codes "declare" ∷ l) (sym (more_is ws w is))
 
 sum_is : (k d : Word) (sum : Sum) → with_two a_sum (kind_of k) (digest_of d) ≡ Some sum → kind_text sum.kind ∷ digest_text sum.digest ∷ [] ≡ k ∷ d ∷ []
 sum_is k d sum h =
-    let got = two_parts a_sum (kind_of k) (digest_of d) sum h in
+    let got = parts_of_two a_sum (kind_of k) (digest_of d) sum h in
     ap (λ (s : Sum). kind_text s.kind ∷ digest_text s.digest ∷ []) (sym got.4)
-    ∙ ap₂ (λ (a b : Word). a ∷ b ∷ []) (sym (kind_is k got.0 got.2)) (sym (digest_is d got.1 got.3))
+    ∙ ap₂ (λ (a b : Word). a ∷ b ∷ []) (sym (kind_text-kind_of k got.0 got.2)) (sym (digest_text-digest_of d got.1 got.3))
 
 match_words : (ws : List Word) (o : Option (Word × Word × Word × Word)) (r : Request) → four_of ws ≡ o → match_of o ≡ Some r
     → request_words r ≡ codes "match" ∷ ws
 match_words ws None r is h = absurd cc
 match_words ws (Some w) r is h =
-    let got = three_parts request.Matches (command_of w.0) (path_of w.1) (with_two a_sum (kind_of w.2) (digest_of w.3)) r h in
+    let got = parts_of_three request.Matches (command_of w.0) (path_of w.1) (with_two a_sum (kind_of w.2) (digest_of w.3)) r h in
     ap request_words (sym got.6)
-    ∙ ap₂ (λ (a b : Word). codes "match" ∷ a ∷ b ∷ kind_text got.2.kind ∷ digest_text got.2.digest ∷ []) (sym (command_is w.0 got.0 got.3)) (sym (path_is w.1 got.1 got.4))
+    ∙ ap₂ (λ (a b : Word). codes "match" ∷ a ∷ b ∷ kind_text got.2.kind ∷ digest_text got.2.digest ∷ []) (sym (decimal-command_of w.0 got.0 got.3)) (sym (joined-path_of w.1 got.1 got.4))
     ∙ ap (λ (l : List Word). codes "match" ∷ w.0 ∷ w.1 ∷ l) (sum_is w.2 w.3 got.2 got.5)
     ∙ ap (λ (l : List Word). codes "match" ∷ l) (sym (four_is ws w is))
 
@@ -300,50 +300,50 @@ request_is asking.Flush ws r h = flush_words ws (none_of ws) r refl h
 blob_words : (ws : List Word) (o : Option Word) (it : Item) → one_of ws ≡ o → blob_of o ≡ Some it → item_words it ≡ codes "blob" ∷ ws
 blob_words ws None it is h = absurd cc
 blob_words ws (Some w) it is h =
-    let got = one_parts item.Blob _ it h in
-    ap item_words (sym got.2) ∙ ap (λ (a : Word). codes "blob" ∷ a ∷ []) (sym (bytes_is w got.0 got.1))
+    let got = parts_of_one item.Blob _ it h in
+    ap item_words (sym got.2) ∙ ap (λ (a : Word). codes "blob" ∷ a ∷ []) (sym (bytes_word-bytes_of w got.0 got.1))
     ∙ ap (λ (l : List Word). codes "blob" ∷ l) (sym (one_is ws w is))
 
 lie_words : (ws : List Word) (o : Option (Word × Word)) (it : Item) → two_of ws ≡ o → lie_of o ≡ Some it → item_words it ≡ codes "lie" ∷ ws
 lie_words ws None it is h = absurd cc
 lie_words ws (Some w) it is h =
-    let got = two_parts item.Lie _ _ it h in
-    ap item_words (sym got.4) ∙ ap₂ (λ (a b : Word). codes "lie" ∷ a ∷ b ∷ []) (sym (digest_is w.0 got.0 got.2)) (sym (bytes_is w.1 got.1 got.3))
+    let got = parts_of_two item.Lie _ _ it h in
+    ap item_words (sym got.4) ∙ ap₂ (λ (a b : Word). codes "lie" ∷ a ∷ b ∷ []) (sym (digest_text-digest_of w.0 got.0 got.2)) (sym (bytes_word-bytes_of w.1 got.1 got.3))
     ∙ ap (λ (l : List Word). codes "lie" ∷ l) (sym (two_is ws w is))
 
 at_words : (ws : List Word) (o : Option Word) (it : Item) → one_of ws ≡ o → at_of o ≡ Some it → item_words it ≡ codes "at" ∷ ws
 at_words ws None it is h = absurd cc
 at_words ws (Some w) it is h =
-    let got = one_parts item.At _ it h in
-    ap item_words (sym got.2) ∙ ap (λ (a : Word). codes "at" ∷ a ∷ []) (sym (moment_is w got.0 got.1))
+    let got = parts_of_one item.At _ it h in
+    ap item_words (sym got.2) ∙ ap (λ (a : Word). codes "at" ∷ a ∷ []) (sym (decimal-moment_of w got.0 got.1))
     ∙ ap (λ (l : List Word). codes "at" ∷ l) (sym (one_is ws w is))
 
 step_words : (workers : ℕ) (ws : List Word) (o : Option Word) (it : Item) → workers < 2 ^ 32 → one_of ws ≡ o → step_of workers o ≡ Some it → item_words it ≡ codes "step" ∷ ws
 step_words workers ws None it few is h = absurd cc
 step_words workers ws (Some w) it few is h =
-    let got = one_parts item.Step _ it h in
-    ap item_words (sym got.2) ∙ ap (λ (a : Word). codes "step" ∷ a ∷ []) (sym (worker_is workers w got.0 few got.1))
+    let got = parts_of_one item.Step _ it h in
+    ap item_words (sym got.2) ∙ ap (λ (a : Word). codes "step" ∷ a ∷ []) (sym (decimal-worker_of workers w got.0 few got.1))
     ∙ ap (λ (l : List Word). codes "step" ∷ l) (sym (one_is ws w is))
 
 show_words : (ws : List Word) (o : Option Word) (it : Item) → one_of ws ≡ o → show_of o ≡ Some it → item_words it ≡ codes "show" ∷ ws
 show_words ws None it is h = absurd cc
 show_words ws (Some w) it is h =
-    let got = one_parts item.Show _ it h in
-    ap item_words (sym got.2) ∙ ap (λ (a : Word). codes "show" ∷ a ∷ []) (sym (path_is w got.0 got.1))
+    let got = parts_of_one item.Show _ it h in
+    ap item_words (sym got.2) ∙ ap (λ (a : Word). codes "show" ∷ a ∷ []) (sym (joined-path_of w got.0 got.1))
     ∙ ap (λ (l : List Word). codes "show" ∷ l) (sym (one_is ws w is))
 
 fail_words : (ws : List Word) (o : Option (Word × Word)) (it : Item) → two_of ws ≡ o → fail_of o ≡ Some it → item_words it ≡ codes "fail" ∷ ws
 fail_words ws None it is h = absurd cc
 fail_words ws (Some w) it is h =
-    let got = two_parts item.Fail _ _ it h in
-    ap item_words (sym got.4) ∙ ap₂ (λ (a b : Word). codes "fail" ∷ a ∷ b ∷ []) (sym (device_is w.0 got.0 got.2)) (sym (place_is w.1 got.1 got.3))
+    let got = parts_of_two item.Fail _ _ it h in
+    ap item_words (sym got.4) ∙ ap₂ (λ (a b : Word). codes "fail" ∷ a ∷ b ∷ []) (sym (device_text-device_of w.0 got.0 got.2)) (sym (decimal-place_of w.1 got.1 got.3))
     ∙ ap (λ (l : List Word). codes "fail" ∷ l) (sym (two_is ws w is))
 
 stop_words : (ws : List Word) (o : Option (Word × Word)) (it : Item) → two_of ws ≡ o → stop_of o ≡ Some it → item_words it ≡ codes "stop" ∷ ws
 stop_words ws None it is h = absurd cc
 stop_words ws (Some w) it is h =
-    let got = two_parts item.Stop _ _ it h in
-    ap item_words (sym got.4) ∙ ap₂ (λ (a b : Word). codes "stop" ∷ a ∷ b ∷ []) (sym (count_is w.0 got.0 got.2)) (sym (pick_is w.1 got.1 got.3))
+    let got = parts_of_two item.Stop _ _ it h in
+    ap item_words (sym got.4) ∙ ap₂ (λ (a b : Word). codes "stop" ∷ a ∷ b ∷ []) (sym (decimal-count_of w.0 got.0 got.2)) (sym (pick_text-pick_of w.1 got.1 got.3))
     ∙ ap (λ (l : List Word). codes "stop" ∷ l) (sym (two_is ws w is))
 
 alone_words : (verb : Word) (one : Item) (ws : List Word) (t : Bool) (it : Item) → item_words one ≡ verb ∷ [] → none_of ws ≡ t
@@ -382,37 +382,37 @@ other_is workers doing.Restart ws it few h = alone_words (codes "restart") item.
 
 asking_is : (w : Word) (v : Asking) → asking_of w ≡ Some v → w ≡ asking_word v
 asking_is w v h =
-    by_first asking_word w (codes "enter") asking.Enter v _ refl
-    (by_first asking_word w (codes "leave") asking.Leave v _ refl
-    (by_first asking_word w (codes "write") asking.Write v _ refl
-    (by_first asking_word w (codes "declare") asking.Declare v _ refl
-    (by_first asking_word w (codes "copy") asking.Copy v _ refl
-    (by_first asking_word w (codes "match") asking.Match v _ refl
-    (by_first asking_word w (codes "has") asking.Has v _ refl
-    (by_first asking_word w (codes "ensure") asking.Ensure v _ refl
-    (by_first asking_word w (codes "invalidate") asking.Invalidate v _ refl
-    (by_first asking_word w (codes "clean") asking.Clean v _ refl
-    (by_first asking_word w (codes "flush") asking.Flush v None refl (λ e. absurd cc))))))))))) h
+    text_by_first asking_word w (codes "enter") asking.Enter v _ refl
+    (text_by_first asking_word w (codes "leave") asking.Leave v _ refl
+    (text_by_first asking_word w (codes "write") asking.Write v _ refl
+    (text_by_first asking_word w (codes "declare") asking.Declare v _ refl
+    (text_by_first asking_word w (codes "copy") asking.Copy v _ refl
+    (text_by_first asking_word w (codes "match") asking.Match v _ refl
+    (text_by_first asking_word w (codes "has") asking.Has v _ refl
+    (text_by_first asking_word w (codes "ensure") asking.Ensure v _ refl
+    (text_by_first asking_word w (codes "invalidate") asking.Invalidate v _ refl
+    (text_by_first asking_word w (codes "clean") asking.Clean v _ refl
+    (text_by_first asking_word w (codes "flush") asking.Flush v None refl (λ e. absurd cc))))))))))) h
 
 doing_is : (w : Word) (v : Doing) → doing_of w ≡ Some v → w ≡ doing_word v
 doing_is w v h =
-    by_first doing_word w (codes "blob") doing.Blob v _ refl
-    (by_first doing_word w (codes "lie") doing.Lie v _ refl
-    (by_first doing_word w (codes "at") doing.At v _ refl
-    (by_first doing_word w (codes "step") doing.Step v _ refl
-    (by_first doing_word w (codes "drain") doing.Drain v _ refl
-    (by_first doing_word w (codes "show") doing.Show v _ refl
-    (by_first doing_word w (codes "asks") doing.Asks v _ refl
-    (by_first doing_word w (codes "fail") doing.Fail v _ refl
-    (by_first doing_word w (codes "stop") doing.Stop v _ refl
-    (by_first doing_word w (codes "restart") doing.Restart v None refl (λ e. absurd cc)))))))))) h
+    text_by_first doing_word w (codes "blob") doing.Blob v _ refl
+    (text_by_first doing_word w (codes "lie") doing.Lie v _ refl
+    (text_by_first doing_word w (codes "at") doing.At v _ refl
+    (text_by_first doing_word w (codes "step") doing.Step v _ refl
+    (text_by_first doing_word w (codes "drain") doing.Drain v _ refl
+    (text_by_first doing_word w (codes "show") doing.Show v _ refl
+    (text_by_first doing_word w (codes "asks") doing.Asks v _ refl
+    (text_by_first doing_word w (codes "fail") doing.Fail v _ refl
+    (text_by_first doing_word w (codes "stop") doing.Stop v _ refl
+    (text_by_first doing_word w (codes "restart") doing.Restart v None refl (λ e. absurd cc)))))))))) h
 
 -- ---- whole lines
 
 behind_is : (workers : ℕ) (verb : Word) (ws : List Word) (asked : Option Asking) (did : Option Doing) (it : Item) → workers < 2 ^ 32
     → asking_of verb ≡ asked → doing_of verb ≡ did → item_behind workers ws asked did ≡ Some it → item_words it ≡ verb ∷ ws
 behind_is workers verb ws (Some asked) did it few asks does h =
-    let got = one_parts item.Request (request_of asked ws) it h in
+    let got = parts_of_one item.Request (request_of asked ws) it h in
     ap item_words (sym got.2) ∙ request_is asked ws got.0 got.1 ∙ ap (λ (v : Word). v ∷ ws) (sym (asking_is verb asked asks))
 behind_is workers verb ws None (Some did) it few asks does h = other_is workers did ws it few h ∙ ap (λ (v : Word). v ∷ ws) (sym (doing_is verb did does))
 behind_is workers verb ws None None it few asks does h = absurd cc
@@ -422,6 +422,6 @@ item_is : (workers : ℕ) (words : List Word) (it : Item) → workers < 2 ^ 32 �
 item_is workers [] it few h = absurd cc
 item_is workers (verb ∷ ws) it few h = behind_is workers verb ws (asking_of verb) (doing_of verb) it few refl refl h
 
--- so that its text is the line
-pub text_is : (workers : ℕ) (text : List ℕ) (it : Item) → workers < 2 ^ 32 → item_of workers (words_of text) ≡ Some it → text ≡ item_text it
-text_is workers text it few h = sym (join_with_byte-slice_split 32 text) ∙ ap text_of (sym (item_is workers (words_of text) it few h))
+-- so the text of an item that a line says is the line
+pub item_text-item_of : (workers : ℕ) (text : List ℕ) (it : Item) → workers < 2 ^ 32 → item_of workers (words_of text) ≡ Some it → text ≡ item_text it
+item_text-item_of workers text it few h = sym (join_with_byte-slice_split 32 text) ∙ ap text_of (sym (item_is workers (words_of text) it few h))

@@ -1,7 +1,7 @@
 pub mod NumberLemmas
-pub mod WordLemmas
 pub mod ClearLemmas
 pub mod BackLemmas
 pub mod BoundsLemmas
 pub mod SpelledIs
 pub mod ItemsIs
+pub mod Starts

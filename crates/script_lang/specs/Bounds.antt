@@ -9,7 +9,7 @@ use Rattle.script_lang.specs.declared.items.Item.TheVariants as item
 use Rattle.script_lang.specs.declared.items.Line.{Line}
 use Rattle.script_lang.specs.declared.items.Line.TheVariants as line
 
--- what the language asks of a request beyond what its type holds
+-- what the language asks of a request beyond what its type says
 abbrev pub HasRequestBounds : Request → Type 0
 HasRequestBounds (request.Enter command state) = Unit {0}
 HasRequestBounds (request.Leave command) = Unit {0}
@@ -23,7 +23,7 @@ HasRequestBounds (request.Invalidate command path) = Unit {0}
 HasRequestBounds (request.Clean cutoff mode) = cutoff < 2 ^ 63
 HasRequestBounds request.Flush = Unit {0}
 
--- what the language asks of an item beyond what its type holds, where there are so many workers
+-- what the language asks of an item beyond what its type says, where there are so many workers
 abbrev pub HasBounds : ℕ → Item → Type 0
 HasBounds workers (item.Request asked) = HasRequestBounds asked
 HasBounds workers (item.Blob bytes) = Unit {0}

@@ -9,6 +9,7 @@ use Rattle.mat_model.specs.declared.requests.Request.TheVariants as request
 use Rattle.mat_tree.specs.declared.flat.Flat.{Flat}
 use Rattle.mat_tree.specs.declared.sum.Kind.{Kind}
 use Rattle.mat_tree.specs.declared.sum.Sum.{Sum}
+use Rattle.tree_words.specs.Rests.{none_of}
 use Rattle.script_lang.specs.declared.items.Item.{Item}
 use Rattle.script_lang.specs.declared.items.Item.TheVariants as item
 use Rattle.script_lang.specs.declared.verbs.Asking.{Asking}
@@ -23,11 +24,6 @@ use Rattle.script_lang.specs.Verbs.{asking_of, doing_of}
 -- a word is its bytes
 abbrev pub Word : Type 0
 Word = List ℕ
-
--- whether there is no word
-abbrev pub none_of : List Word → Bool
-none_of [] = true
-none_of (a ∷ more) = false
 
 -- the words, if they are one, two, three or four
 abbrev pub one_of : List Word → Option Word

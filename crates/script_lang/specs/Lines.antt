@@ -1,11 +1,11 @@
 -- What a line says.
 use Rattle.std.specs.Prelude.{◌≡◌, ℕ, ◌==◌, nat_lt, codes, Bool, true, if◌then◌else◌, List, [], ◌∷◌, length, Option, Some, None}
+use Rattle.mat_path.specs.Names.{same_name}
 use Rattle.tree_words.specs.Rests.{words_of}
 use Rattle.script_lang.specs.declared.items.Item.{Item}
 use Rattle.script_lang.specs.declared.items.Line.{Line}
 use Rattle.script_lang.specs.declared.items.Line.TheVariants as line
 use Rattle.script_lang.specs.Items.{item_of}
-use Rattle.script_lang.specs.Spelled.{same_word}
 
 -- the longest line that is read
 abbrev pub line_limit : ℕ
@@ -18,7 +18,7 @@ is_skipped (byte ∷ bytes) = byte == 35
 
 -- whether a line ends the script
 abbrev pub is_end : List ℕ → Bool
-is_end text = same_word text (codes "end")
+is_end text = same_name text (codes "end")
 
 -- a line that is an item, or nothing that a line may say
 abbrev pub item_line : Option Item → Line

@@ -1,13 +1,13 @@
 -- What one word spells, and what the words of a tree spell.
-use Rattle.std.specs.Prelude.{ℕ, ◌==◌, ◌^◌, ◌%◌, ◌&&◌, nat_le, nat_lt, nat_eq, codes, Bool, not, if◌then◌else◌, List, [], length, slice_index, Option, Some, None}
+use Rattle.std.specs.Prelude.{ℕ, ◌==◌, ◌^◌, ◌%◌, ◌&&◌, nat_le, nat_lt, codes, Bool, not, if◌then◌else◌, List, [], length, Option, Some, None}
 use Rattle.std.specs.Char.{is_ascii_digit}
-use Rattle.std.specs.Cmp.Lexicographic.{pointwise}
 use Rattle.std.specs.List.{list_all}
 use Rattle.std.specs.Result.{result_ok, result_unwrap_or}
 use Rattle.std.specs.Str.Parse.{digits_value}
 use Rattle.hex.specs.Hex.{decode_of}
 use Rattle.mat_digest.specs.declared.digest.Digest.{Digest}
-use Rattle.mat_digest.specs.Digests.{is_lower_digit, read_digest}
+use Rattle.mat_digest.specs.Digests.{has_leading_zero, is_lower_digit, read_digest}
+use Rattle.mat_path.specs.Names.{same_name}
 use Rattle.mat_model.specs.declared.answers.Device.{Device}
 use Rattle.mat_model.specs.declared.answers.Device.TheVariants as device
 use Rattle.mat_model.specs.declared.requests.CleanMode.{CleanMode}
@@ -19,15 +19,7 @@ use Rattle.tree_words.specs.Words.{at_kind, read_from, tree_of}
 use Rattle.script_lang.specs.declared.items.Pick.{Pick}
 use Rattle.script_lang.specs.declared.items.Pick.TheVariants as pick
 
--- whether two words are the same
-abbrev pub same_word : List ℕ → List ℕ → Bool
-same_word a b = pointwise nat_eq a b
-
 -- ---- numbers
-
--- whether a word begins with a zero before another byte
-abbrev pub has_leading_zero : List ℕ → Bool
-has_leading_zero word = nat_lt 1 (length word) && slice_index word 0 == 48
 
 -- whether a word is a number: decimal digits, at least one, of which none is a leading zero
 abbrev pub is_number : List ℕ → Bool
@@ -76,7 +68,7 @@ is_hex word = nat_lt 0 (length word) && (length word % 2 == 0) && list_all is_lo
 -- the bytes that a word spells: `-` is none
 abbrev pub bytes_of : List ℕ → Option (List ℕ)
 bytes_of word =
-    if same_word word (codes "-") then Some []
+    if same_name word (codes "-") then Some []
     else if is_hex word then Some (result_unwrap_or (decode_of word) [])
     else None
 
@@ -89,33 +81,33 @@ digest_of word = result_ok (read_digest word)
 -- the kind that a letter names
 abbrev pub kind_of : List ℕ → Option Kind
 kind_of word =
-    if same_word word (codes "f") then Some kind.File
-    else if same_word word (codes "x") then Some kind.Exec
-    else if same_word word (codes "d") then Some kind.Dir
+    if same_name word (codes "f") then Some kind.File
+    else if same_name word (codes "x") then Some kind.Exec
+    else if same_name word (codes "d") then Some kind.Dir
     else None
 
 -- the mode of a clean
 abbrev pub mode_of : List ℕ → Option CleanMode
 mode_of word =
-    if same_word word (codes "real") then Some mode.Real
-    else if same_word word (codes "dry") then Some mode.Dry
-    else if same_word word (codes "all") then Some mode.All
+    if same_name word (codes "real") then Some mode.Real
+    else if same_name word (codes "dry") then Some mode.Dry
+    else if same_name word (codes "all") then Some mode.All
     else None
 
 -- the device of a name
 abbrev pub device_of : List ℕ → Option Device
 device_of word =
-    if same_word word (codes "disk") then Some device.Disk
-    else if same_word word (codes "store") then Some device.Store
-    else if same_word word (codes "keeper") then Some device.Keeper
+    if same_name word (codes "disk") then Some device.Disk
+    else if same_name word (codes "store") then Some device.Store
+    else if same_name word (codes "keeper") then Some device.Keeper
     else None
 
 -- what becomes of what was not synced
 abbrev pub pick_of : List ℕ → Option Pick
 pick_of word =
-    if same_word word (codes "none") then Some pick.Nothing
-    else if same_word word (codes "whole") then Some pick.Whole
-    else if same_word word (codes "torn") then Some pick.Torn
+    if same_name word (codes "none") then Some pick.Nothing
+    else if same_name word (codes "whole") then Some pick.Whole
+    else if same_name word (codes "torn") then Some pick.Torn
     else None
 
 -- ---- trees

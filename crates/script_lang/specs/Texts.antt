@@ -61,7 +61,7 @@ limit_text limit.Held = codes "held"
 limit_text limit.Asked = codes "asked"
 limit_text limit.Holds = codes "holds"
 
--- how many bytes some removed rows have, or the last number that 64 bits hold
+-- how many bytes some removed rows have, or 2^64 - 1 where that is less
 abbrev pub gone_bytes : Gone → ℕ
 gone_bytes gone = gone.bytes
 

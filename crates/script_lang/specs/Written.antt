@@ -1,4 +1,4 @@
--- The text of an item, and what the type of an item holds.
+-- The text of an item, and what its type says of it.
 use Rattle.std.specs.Prelude.{◌≡◌, ℕ, ◌^◌, ◌<◌, All, codes, decimal, true, List, [], ◌∷◌}
 use Rattle.std.specs.List.{flat_map}
 use Rattle.hex.specs.Hex.{IsBytes, encode_lower}
@@ -78,14 +78,14 @@ IsTextOf line.Unread text = Unit {0}
 IsTextOf (line.Item it) text = text ≡ item_text it
 IsTextOf line.NoMemory text = Unit {0}
 
--- ---- what types hold
+-- ---- what types say
 
 -- a command and a path: 32 bits, and names that are a path
 pub record IsAddressed (command : ℕ) (path : List (List ℕ)) : Type 0 where
   pub number_fits : command < 2 ^ 32
   pub names_fit : is_path path ≡ true
 
--- what the type of a request holds
+-- what the type of a request says of it
 abbrev pub IsRequest : Request → Type 0
 IsRequest (request.Enter command state) = (command < 2 ^ 32) × (state < 2 ^ 64)
 IsRequest (request.Leave command) = command < 2 ^ 32
@@ -99,7 +99,7 @@ IsRequest (request.Invalidate command path) = IsAddressed command path
 IsRequest (request.Clean cutoff mode) = cutoff < 2 ^ 64
 IsRequest request.Flush = Unit {0}
 
--- what the type of an item holds
+-- what the type of an item says of it
 abbrev pub IsItem : Item → Type 0
 IsItem (item.Request asked) = IsRequest asked
 IsItem (item.Blob bytes) = IsBytes bytes

@@ -19,9 +19,9 @@ pub enum Pick {
 pub enum Item {
     /// A request of a command.
     Request(Request),
-    /// To put bytes into the store under their digest.
+    /// To put bytes into the blob store under their digest.
     Blob(Items<u8>),
-    /// To put bytes into the store under this digest.
+    /// To put bytes into the blob store under this digest.
     Lie { digest: Digest, bytes: Items<u8> },
     /// To have this moment, unless a later one is there.
     At(u64),
@@ -31,7 +31,7 @@ pub enum Item {
     Drain,
     /// The nodes of the disk at and below a path.
     Show(Path),
-    /// How often the store was called.
+    /// How often the blob store was called.
     Asks,
     /// To have the k-th call of a device from here on fail.
     Fail { device: Device, k: u64 },

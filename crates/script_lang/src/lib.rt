@@ -1,11 +1,10 @@
-//! The lines of a script: what each asks for, and the text of what is told of it.
+//! Floor of the language: the lines of a script, what each asks for, and the text of what is told of it.
 //!
 //! A line is words with single spaces between them. `read_line` reads it as an item, and `write_item` writes an item as its
 //! line. Each item within the bounds of lines has exactly one line: what is written is read as the item again, and what is
 //! read is written as the line again.
 #![tactic(auto)]
 
-mod held;
 mod items;
 mod lines;
 mod requests;

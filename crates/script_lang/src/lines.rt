@@ -2,12 +2,12 @@
 ghost use Rattle.std.specs.Prelude.{◌≡◌, if◌then◌else◌, Some, None, IfOk};
 ghost use Rattle.script_lang.specs.declared.items.Item.TheVariants as item;
 ghost use Rattle.script_lang.specs.declared.verbs.Doing.TheVariants as doing;
-ghost use Rattle.script_lang.specs.Items.{at_of, blob_of, fail_of, item_behind, item_of, lie_of, none_of, one_of, other_of, show_of, step_of, stop_of, two_of, with_one, with_two};
+ghost use Rattle.script_lang.specs.Items.{at_of, blob_of, fail_of, item_behind, item_of, lie_of, one_of, other_of, show_of, step_of, stop_of, two_of, with_one, with_two};
 ghost use Rattle.script_lang.specs.Written.{IsTextOf};
 ghost use Rattle.script_lang.specs.Verbs.{asking_of, doing_of};
 ghost use Rattle.script_lang.specs.Bounds.{HasLineBounds};
 ghost use Rattle.script_lang.specs.Lines.{is_skipped, line_of, IsRead};
-ghost use Rattle.tree_words.specs.Rests.{words_of};
+ghost use Rattle.tree_words.specs.Rests.{none_of, words_of};
 
 use crate::items::{Item, Line, Pick};
 use crate::requests::read_request;
@@ -16,11 +16,12 @@ use crate::spelled::{
     pick_spelled, place_spelled, worker_spelled,
 };
 use crate::verbs::{Doing, asking_spelled, doing_spelled};
-use crate::words::Words;
+use crate::words::{one, two};
 use mat_digest::Digest;
 use mat_model::{Device, Request};
 use mat_path::{Items, Memory, Path};
 use std::alloc::Global;
+use tree_words::Words;
 
 /// The longest line that is read.
 const LINE_LIMIT: usize = 1_048_576;
@@ -130,7 +131,7 @@ fn alone(words: Words<'_>, item: Item) -> Option<Item>
 fn read_blob(alloc: Global, words: Words<'_>) -> Result<Option<Item>, Memory>
     ensures ok { IfOk result (λ item. item ≡ blob_of (one_of words.entry)) }
 {
-    match words.one() {
+    match one(words) {
         Some(bytes) => Ok(a_blob(bytes_spelled(alloc, bytes)?)),
         None => Ok(None),
     }
@@ -148,7 +149,7 @@ fn a_blob(bytes: Option<Items<u8>>) -> Option<Item>
 fn read_lie(alloc: Global, words: Words<'_>) -> Result<Option<Item>, Memory>
     ensures ok { IfOk result (λ item. item ≡ lie_of (two_of words.entry)) }
 {
-    match words.two() {
+    match two(words) {
         Some((digest, bytes)) => {
             let bytes = bytes_spelled(alloc, bytes)?;
             Ok(a_lie(digest_spelled(digest), bytes))
@@ -170,7 +171,7 @@ fn a_lie(digest: Option<Digest>, bytes: Option<Items<u8>>) -> Option<Item>
 fn read_at(words: Words<'_>) -> Option<Item>
     ensures { result ≡ at_of (one_of words.entry) }
 {
-    match words.one() {
+    match one(words) {
         Some(moment) => an_at(moment_spelled(moment)),
         None => None,
     }
@@ -188,7 +189,7 @@ fn an_at(moment: Option<u64>) -> Option<Item>
 fn read_step(words: Words<'_>, workers: u32) -> Option<Item>
     ensures { result ≡ step_of workers (one_of words.entry) }
 {
-    match words.one() {
+    match one(words) {
         Some(worker) => a_step(worker_spelled(workers, worker)),
         None => None,
     }
@@ -206,7 +207,7 @@ fn a_step(worker: Option<u32>) -> Option<Item>
 fn read_show(alloc: Global, words: Words<'_>) -> Result<Option<Item>, Memory>
     ensures ok { IfOk result (λ item. item ≡ show_of (one_of words.entry)) }
 {
-    match words.one() {
+    match one(words) {
         Some(path) => Ok(a_show(path_spelled(alloc, path)?)),
         None => Ok(None),
     }
@@ -224,7 +225,7 @@ fn a_show(path: Option<Path>) -> Option<Item>
 fn read_fail(words: Words<'_>) -> Option<Item>
     ensures { result ≡ fail_of (two_of words.entry) }
 {
-    match words.two() {
+    match two(words) {
         Some((device, k)) => a_fail(device_spelled(device), place_spelled(k)),
         None => None,
     }
@@ -243,7 +244,7 @@ fn a_fail(device: Option<Device>, k: Option<u64>) -> Option<Item>
 fn read_stop(words: Words<'_>) -> Option<Item>
     ensures { result ≡ stop_of (two_of words.entry) }
 {
-    match words.two() {
+    match two(words) {
         Some((k, pick)) => a_stop(count_spelled(k), pick_spelled(pick)),
         None => None,
     }

@@ -11,12 +11,13 @@ use crate::spelled::{
     moment_spelled, path_spelled, tree_spelled,
 };
 use crate::verbs::Asking;
-use crate::words::Words;
+use crate::words::{four, one, three, two, two_and_more};
 use mat_digest::Digest;
 use mat_model::{CleanMode, Request};
 use mat_path::{Items, Memory, Path};
 use mat_tree::{Flat, Kind, Sum, Tree};
 use std::alloc::Global;
+use tree_words::Words;
 
 // The request that the words behind the first say.
 pub(crate) fn read_request(
@@ -45,7 +46,7 @@ pub(crate) fn read_request(
 fn read_enter(words: Words<'_>) -> Option<Request>
     ensures { result ≡ enter_of (two_of words.entry) }
 {
-    match words.two() {
+    match two(words) {
         Some((command, state)) => an_enter(command_spelled(command), count_spelled(state)),
         None => None,
     }
@@ -64,7 +65,7 @@ fn an_enter(command: Option<u32>, state: Option<u64>) -> Option<Request>
 fn read_leave(words: Words<'_>) -> Option<Request>
     ensures { result ≡ leave_of (one_of words.entry) }
 {
-    match words.one() {
+    match one(words) {
         Some(command) => a_leave(command_spelled(command)),
         None => None,
     }
@@ -82,7 +83,7 @@ fn a_leave(command: Option<u32>) -> Option<Request>
 fn read_write(alloc: Global, words: Words<'_>) -> Result<Option<Request>, Memory>
     ensures ok { IfOk result (λ request. request ≡ write_of (three_of words.entry)) }
 {
-    match words.three() {
+    match three(words) {
         Some((command, path, bytes)) => {
             let path = path_spelled(alloc, path)?;
             let bytes = bytes_spelled(alloc, bytes)?;
@@ -110,7 +111,7 @@ fn a_write(command: Option<u32>, path: Option<Path>, bytes: Option<Items<u8>>) -
 fn read_declare(alloc: Global, words: Words<'_>) -> Result<Option<Request>, Memory>
     ensures ok { IfOk result (λ request. request ≡ declare_of (two_and_more_of words.entry)) }
 {
-    match words.two_and_more() {
+    match two_and_more(words) {
         Some((command, path, tree)) => {
             let path = path_spelled(alloc, path)?;
             let tree = tree_spelled(alloc, tree)?;
@@ -173,7 +174,7 @@ fn is_placed(path: &Path, node: &Flat) -> bool
 fn read_copy(alloc: Global, words: Words<'_>) -> Result<Option<Request>, Memory>
     ensures ok { IfOk result (λ request. request ≡ copy_of (three_of words.entry)) }
 {
-    match words.three() {
+    match three(words) {
         Some((command, path, source)) => {
             let path = path_spelled(alloc, path)?;
             let source = path_spelled(alloc, source)?;
@@ -201,7 +202,7 @@ fn a_copy(command: Option<u32>, path: Option<Path>, source: Option<Path>) -> Opt
 fn read_match(alloc: Global, words: Words<'_>) -> Result<Option<Request>, Memory>
     ensures ok { IfOk result (λ request. request ≡ match_of (four_of words.entry)) }
 {
-    match words.four() {
+    match four(words) {
         Some((command, path, kind, digest)) => {
             let path = path_spelled(alloc, path)?;
             let sum = a_sum(kind_spelled(kind), digest_spelled(digest));
@@ -234,7 +235,7 @@ fn a_match(command: Option<u32>, path: Option<Path>, sum: Option<Sum>) -> Option
 fn read_has(alloc: Global, words: Words<'_>) -> Result<Option<Request>, Memory>
     ensures ok { IfOk result (λ request. request ≡ has_of (two_of words.entry)) }
 {
-    match words.two() {
+    match two(words) {
         Some((command, path)) => {
             let path = path_spelled(alloc, path)?;
             Ok(a_has(command_spelled(command), path))
@@ -256,7 +257,7 @@ fn a_has(command: Option<u32>, path: Option<Path>) -> Option<Request>
 fn read_ensure(alloc: Global, words: Words<'_>) -> Result<Option<Request>, Memory>
     ensures ok { IfOk result (λ request. request ≡ ensure_of (two_of words.entry)) }
 {
-    match words.two() {
+    match two(words) {
         Some((command, path)) => {
             let path = path_spelled(alloc, path)?;
             Ok(an_ensure(command_spelled(command), path))
@@ -278,7 +279,7 @@ fn an_ensure(command: Option<u32>, path: Option<Path>) -> Option<Request>
 fn read_invalidate(alloc: Global, words: Words<'_>) -> Result<Option<Request>, Memory>
     ensures ok { IfOk result (λ request. request ≡ invalidate_of (two_of words.entry)) }
 {
-    match words.two() {
+    match two(words) {
         Some((command, path)) => {
             let path = path_spelled(alloc, path)?;
             Ok(an_invalidate(command_spelled(command), path))
@@ -300,7 +301,7 @@ fn an_invalidate(command: Option<u32>, path: Option<Path>) -> Option<Request>
 fn read_clean(words: Words<'_>) -> Option<Request>
     ensures { result ≡ clean_of (two_of words.entry) }
 {
-    match words.two() {
+    match two(words) {
         Some((cutoff, mode)) => a_clean(moment_spelled(cutoff), mode_spelled(mode)),
         None => None,
     }

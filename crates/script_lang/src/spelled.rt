@@ -1,37 +1,21 @@
 // What one word spells, and what the words of a tree spell.
 ghost use Rattle.std.specs.Prelude.{◌≡◌, ◌^◌, true, false, Some, None, IfOk, MatchOption};
-ghost use Rattle.std.specs.Char.{is_ascii_digit};
 ghost use Rattle.std.specs.List.{list_all};
 ghost use Rattle.mat_digest.specs.Digests.{is_lower_digit};
 ghost use Rattle.mat_path.specs.Names.{path_of};
 ghost use Rattle.tree_words.specs.Rests.{words_of};
-ghost use Rattle.script_lang.specs.Spelled.{at_least_one, below, bytes_of, command_of, count_of, device_of, digest_of, has_leading_zero, is_hex, is_number, kind_of, mode_of, moment_of, pick_of, place_of, tree_spelled, worker_of};
+ghost use Rattle.script_lang.specs.Spelled.{at_least_one, below, bytes_of, command_of, count_of, device_of, digest_of, is_hex, is_number, kind_of, mode_of, moment_of, pick_of, place_of, tree_spelled, worker_of};
 
 use crate::items::Pick;
-use crate::words::Words;
-use mat_digest::Digest;
+use mat_digest::{Digest, are_digits, has_leading_zero, is_lower_digit};
 use mat_model::{CleanMode, Device};
 use mat_path::{Items, Memory, Path, PathRefusal};
 use mat_tree::{Kind, Tree};
 use std::alloc::Global;
-use tree_words::{WordsRefusal, read_words};
+use tree_words::{Words, WordsRefusal, read_words};
 
 /// The first moment that is none: 2^63.
 const NO_MOMENT: u64 = 9_223_372_036_854_775_808;
-
-// Whether a word begins with a zero before another byte.
-fn has_leading_zero(word: &[u8]) -> bool
-    ensures { result ≡ has_leading_zero word.now }
-{
-    word.len() > 1 && word[0] == b'0'
-}
-
-// Whether each byte is a decimal digit.
-fn are_digits(word: &[u8]) -> bool
-    ensures { result ≡ list_all is_ascii_digit word.now }
-{
-    word.iter().all(|byte| byte.is_ascii_digit())
-}
 
 // Whether a word is a number: decimal digits with no leading zero.
 fn is_number(word: &[u8]) -> bool
@@ -117,13 +101,6 @@ pub(crate) fn worker_spelled(workers: u32, word: &[u8]) -> Option<u32>
     ensures { result ≡ worker_of workers word.now }
 {
     worker_below(workers, command_spelled(word))
-}
-
-// Whether a byte is `0` to `9` or `a` to `f`.
-fn is_lower_digit(byte: u8) -> bool
-    ensures { result ≡ is_lower_digit byte }
-{
-    matches!(byte, b'0'..=b'9' | b'a'..=b'f')
 }
 
 // Whether each byte is a lower-case hexadecimal digit.

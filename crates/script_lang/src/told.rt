@@ -23,7 +23,7 @@ pub struct Answered {
 pub enum Said {
     /// The reply to a request or to a worker's event.
     Reply(Reply),
-    /// The bytes stand in the store under this digest.
+    /// The bytes stand in the blob store under this digest.
     Stored(Digest),
     /// The moment is this.
     At(u64),
@@ -41,7 +41,7 @@ pub enum Said {
     Shown(Items<Flat>),
     /// A loan overlaps the path.
     Busy,
-    /// How often the store was called.
+    /// How often the blob store was called.
     Asks(u64),
     /// The call will fail, or the stop will come.
     Armed,

@@ -1,5 +1,7 @@
-// The lines of items, as they are read again.
+// The lines of items, as they are read again. Each function also says what the type of its item says: what is written is read
+// again only within these bounds.
 ghost use Rattle.std.specs.Prelude.{◌≡◌, ◌++◌, ◌∷◌, ◌≤◌, ℕ, length, IfOk, OnOk};
+ghost use Rattle.hex.specs.Hex.{IsBytes};
 ghost use Rattle.mat_digest.specs.Digests.{digest_text};
 ghost use Rattle.mat_path.specs.Names.{joined};
 ghost use Rattle.mat_model.specs.declared.requests.Request.TheVariants as the_request;
@@ -9,9 +11,8 @@ ghost use Rattle.script_lang.specs.declared.items.Line.TheVariants as the_line;
 ghost use Rattle.script_lang.specs.Bounds.{HasBounds};
 ghost use Rattle.script_lang.specs.Lines.{line_limit, line_of};
 ghost use Rattle.script_lang.specs.Texts.{numbered};
-ghost use Rattle.script_lang.specs.Written.{bytes_word, item_text, item_words, mode_text, pick_text, request_words};
+ghost use Rattle.script_lang.specs.Written.{IsAddressed, IsItem, IsRequest, bytes_word, item_text, item_words, mode_text, pick_text, request_words};
 
-use crate::held::tell_item;
 use crate::items::{Item, Pick};
 use crate::texts::{push_device, push_digest, push_kind, push_numbered, push_path, push_text};
 use mat_digest::Digest;
@@ -24,6 +25,7 @@ use tree_words::write_words;
 // Puts the word of some bytes behind.
 fn push_bytes(alloc: Global, out: &mut Vec<u8>, bytes: &[u8]) -> Result<(), Memory>
     ensures ok { OnOk result (out.new.items ≡ out.old.items ++ bytes_word bytes.now) }
+    ensures bytes { IsBytes bytes.now }
 {
     match bytes {
         [] => push_text(out, b"-"),
@@ -56,6 +58,7 @@ fn push_pick(out: &mut Vec<u8>, pick: Pick) -> Result<(), Memory>
 // Puts a word, a command's number and a path behind.
 fn push_addressed(out: &mut Vec<u8>, word: &[u8], command: u32, path: &Path) -> Result<(), Memory>
     ensures ok { OnOk result (out.new.items ≡ out.old.items ++ (numbered word.now command ++ 32 ∷ joined path.now)) }
+    ensures valid { OnOk result (IsAddressed command path.now) }
 {
     push_numbered(out, word, command as u64)?;
     push_text(out, b" ")?;
@@ -71,6 +74,7 @@ fn push_write(
     bytes: &[u8],
 ) -> Result<(), Memory>
     ensures ok { OnOk result (out.new.items ≡ out.old.items ++ text_of (request_words (the_request.Write command path.now bytes.now))) }
+    ensures valid { OnOk result (IsRequest (the_request.Write command path.now bytes.now)) }
 {
     push_addressed(out, b"write ", command, path)?;
     push_text(out, b" ")?;
@@ -86,8 +90,8 @@ fn push_declare(
     tree: &Tree,
 ) -> Result<(), Memory>
     ensures ok { OnOk result (out.new.items ≡ out.old.items ++ text_of (request_words (the_request.Declare command path.now tree.now))) }
+    ensures valid { OnOk result (IsRequest (the_request.Declare command path.now tree.now)) }
 {
-    let _root = tree.root();
     push_addressed(out, b"declare ", command, path)?;
     push_text(out, b" ")?;
     push_text(out, write_words(alloc, tree)?.as_slice())
@@ -96,6 +100,7 @@ fn push_declare(
 // Puts the line of a copy behind.
 fn push_copy(out: &mut Vec<u8>, command: u32, path: &Path, source: &Path) -> Result<(), Memory>
     ensures ok { OnOk result (out.new.items ≡ out.old.items ++ text_of (request_words (the_request.Copy command path.now source.now))) }
+    ensures valid { OnOk result (IsRequest (the_request.Copy command path.now source.now)) }
 {
     push_addressed(out, b"copy ", command, path)?;
     push_text(out, b" ")?;
@@ -105,6 +110,7 @@ fn push_copy(out: &mut Vec<u8>, command: u32, path: &Path, source: &Path) -> Res
 // Puts the line of a match behind.
 fn push_match(out: &mut Vec<u8>, command: u32, path: &Path, sum: &Sum) -> Result<(), Memory>
     ensures ok { OnOk result (out.new.items ≡ out.old.items ++ text_of (request_words (the_request.Matches command path.now sum.now))) }
+    ensures valid { OnOk result (IsRequest (the_request.Matches command path.now sum.now)) }
 {
     push_addressed(out, b"match ", command, path)?;
     push_text(out, b" ")?;
@@ -116,6 +122,7 @@ fn push_match(out: &mut Vec<u8>, command: u32, path: &Path, sum: &Sum) -> Result
 // Puts the line of an enter behind.
 fn push_enter(out: &mut Vec<u8>, command: u32, state: u64) -> Result<(), Memory>
     ensures ok { OnOk result (out.new.items ≡ out.old.items ++ text_of (request_words (the_request.Enter command state))) }
+    ensures valid { IsRequest (the_request.Enter command state) }
 {
     push_numbered(out, b"enter ", command as u64)?;
     push_numbered(out, b" ", state)
@@ -124,6 +131,7 @@ fn push_enter(out: &mut Vec<u8>, command: u32, state: u64) -> Result<(), Memory>
 // Puts the line of a clean behind.
 fn push_clean_line(out: &mut Vec<u8>, cutoff: u64, mode: CleanMode) -> Result<(), Memory>
     ensures ok { OnOk result (out.new.items ≡ out.old.items ++ text_of (request_words (the_request.Clean cutoff mode))) }
+    ensures valid { IsRequest (the_request.Clean cutoff mode) }
 {
     push_numbered(out, b"clean ", cutoff)?;
     push_text(out, b" ")?;
@@ -133,6 +141,7 @@ fn push_clean_line(out: &mut Vec<u8>, cutoff: u64, mode: CleanMode) -> Result<()
 // Puts the line of a request behind.
 fn push_request(alloc: Global, out: &mut Vec<u8>, request: &Request) -> Result<(), Memory>
     ensures ok { OnOk result (out.new.items ≡ out.old.items ++ text_of (request_words request.now)) }
+    ensures valid { OnOk result (IsRequest request.now) }
 {
     match request {
         Request::Enter { command, state } => push_enter(out, *command, *state),
@@ -166,6 +175,7 @@ fn push_request(alloc: Global, out: &mut Vec<u8>, request: &Request) -> Result<(
 // Puts the line of a blob behind.
 fn push_blob(alloc: Global, out: &mut Vec<u8>, bytes: &[u8]) -> Result<(), Memory>
     ensures ok { OnOk result (out.new.items ≡ out.old.items ++ item_text (the_item.Blob bytes.now)) }
+    ensures valid { IsItem (the_item.Blob bytes.now) }
 {
     push_text(out, b"blob ")?;
     push_bytes(alloc, out, bytes)
@@ -174,6 +184,7 @@ fn push_blob(alloc: Global, out: &mut Vec<u8>, bytes: &[u8]) -> Result<(), Memor
 // Puts the line of a lie behind.
 fn push_lie(alloc: Global, out: &mut Vec<u8>, digest: &Digest, bytes: &[u8]) -> Result<(), Memory>
     ensures ok { OnOk result (out.new.items ≡ out.old.items ++ item_text (the_item.Lie digest.now bytes.now)) }
+    ensures valid { OnOk result (IsItem (the_item.Lie digest.now bytes.now)) }
 {
     push_text(out, b"lie ")?;
     push_digest(out, digest)?;
@@ -184,6 +195,7 @@ fn push_lie(alloc: Global, out: &mut Vec<u8>, digest: &Digest, bytes: &[u8]) -> 
 // Puts the line of a show behind.
 fn push_show(out: &mut Vec<u8>, path: &Path) -> Result<(), Memory>
     ensures ok { OnOk result (out.new.items ≡ out.old.items ++ item_text (the_item.Show path.now)) }
+    ensures valid { OnOk result (IsItem (the_item.Show path.now)) }
 {
     push_text(out, b"show ")?;
     push_path(out, path)
@@ -192,6 +204,7 @@ fn push_show(out: &mut Vec<u8>, path: &Path) -> Result<(), Memory>
 // Puts the line of a fail behind.
 fn push_fail(out: &mut Vec<u8>, device: Device, k: u64) -> Result<(), Memory>
     ensures ok { OnOk result (out.new.items ≡ out.old.items ++ item_text (the_item.Fail device k)) }
+    ensures valid { IsItem (the_item.Fail device k) }
 {
     push_text(out, b"fail ")?;
     push_device(out, device)?;
@@ -201,6 +214,7 @@ fn push_fail(out: &mut Vec<u8>, device: Device, k: u64) -> Result<(), Memory>
 // Puts the line of a stop behind.
 fn push_stop(out: &mut Vec<u8>, k: u64, pick: Pick) -> Result<(), Memory>
     ensures ok { OnOk result (out.new.items ≡ out.old.items ++ item_text (the_item.Stop k pick)) }
+    ensures valid { IsItem (the_item.Stop k pick) }
 {
     push_numbered(out, b"stop ", k)?;
     push_text(out, b" ")?;
@@ -210,6 +224,7 @@ fn push_stop(out: &mut Vec<u8>, k: u64, pick: Pick) -> Result<(), Memory>
 // Puts the line of an item behind.
 fn push_item(alloc: Global, out: &mut Vec<u8>, item: &Item) -> Result<(), Memory>
     ensures ok { OnOk result (out.new.items ≡ out.old.items ++ item_text item.now) }
+    ensures valid { OnOk result (IsItem item.now) }
 {
     match item {
         Item::Request(request) => push_request(alloc, out, request),
@@ -233,7 +248,6 @@ pub fn write_item(alloc: Global, item: &Item) -> Result<Vec<u8>, Memory>
     ensures back { IfOk result (λ text. (workers : ℕ) → HasBounds workers item.now → length text.items ≤ line_limit
         → line_of workers text.items ≡ the_line.Item item.now) }
 {
-    tell_item(item)?;
     let mut out = Vec::new(alloc);
     push_item(alloc, &mut out, item)?;
     Ok(out)

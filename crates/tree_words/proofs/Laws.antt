@@ -17,10 +17,9 @@ use Rattle.mat_tree.proofs.Refusals.{is_tree_no_refusal}
 use Rattle.tree_words.specs.declared.refusal.WordsRefusal.{WordsRefusal}
 use Rattle.tree_words.specs.declared.refusal.WordsRefusal.TheVariants as refusal
 use Rattle.tree_words.specs.Answers.{IsRefusalOf}
-use Rattle.tree_words.specs.Rests.{words_of}
-use Rattle.tree_words.specs.Words.{at_digest, at_kind, at_rel, at_target, digest_spelled, fitting, node_before, node_words, read_from, read_tree, small_digest, target_spelled, text_of, tree_of, tree_text, unless_refused, what_words}
-use Rattle.tree_words.proofs.Clear.{IsClear, clear_nodes, words_back}
-use Rattle.tree_words.proofs.Texts.{IsSome, some_more}
+use Rattle.tree_words.specs.Words.{at_digest, at_kind, at_rel, at_target, digest_spelled, fitting, node_before, node_words, read_from, read_tree, small_digest, target_spelled, tree_of, tree_text, unless_refused, what_words}
+use Rattle.tree_words.proofs.Clear.{clear_nodes, words_of-text_of}
+use Rattle.tree_words.proofs.Texts.{node_before_some}
 
 -- ---- one word
 
@@ -65,33 +64,27 @@ node_back (what.Link t) rel more nodes h small is gives k = link_back t rel (k +
 -- ---- the words of nodes
 
 nodes_back : (nodes : List Flat) → All IsNode nodes → list_all is_small nodes ≡ true → list_all has_rel nodes ≡ true → Gives (flat_map node_words nodes) nodes
-nodes_back [] held small rels = λ k. refl
-nodes_back (node ∷ nodes) held small rels =
+nodes_back [] each small rels = λ k. refl
+nodes_back (node ∷ nodes) each small rels =
     let smalls = and_parts (is_small node) (list_all is_small nodes) small in
     let places = and_parts (has_rel node) (list_all has_rel nodes) rels in
-    node_back node.what node.rel (flat_map node_words nodes) nodes (All-head IsNode node nodes held) smalls.0 places.0
-    (nodes_back nodes (All-tail IsNode node nodes held) smalls.1 places.1)
-
--- the words of a text of nodes are those of the nodes
-text_back : (words : List (List ℕ)) → IsSome words → All IsClear words → words_of (text_of words) ≡ words
-text_back words some clear =
-    subst (λ (ws : List (List ℕ)). words_of (text_of ws) ≡ ws) (sym some.is)
-    (words_back some.head some.tail (subst (λ (ws : List (List ℕ)). All IsClear ws) some.is clear))
+    node_back node.what node.rel (flat_map node_words nodes) nodes (All-head IsNode node nodes each) smalls.0 places.0
+    (nodes_back nodes (All-tail IsNode node nodes each) smalls.1 places.1)
 
 -- what is written of a tree is read as that tree
-pub tree_back : (nodes : List Flat) → IsTree nodes → All IsNode nodes → read_tree (tree_text nodes) ≡ Ok nodes
-tree_back [] h held = absurd (false≢true h.root)
-tree_back (node ∷ nodes) h held =
+pub read_tree-tree_text : (nodes : List Flat) → IsTree nodes → All IsNode nodes → read_tree (tree_text nodes) ≡ Ok nodes
+read_tree-tree_text [] h each = absurd (false≢true h.root)
+read_tree-tree_text (node ∷ nodes) h each =
     ap (λ (ws : List (List ℕ)). tree_of (read_from at_kind 0 ws))
-    (text_back (flat_map node_words (node ∷ nodes)) (some_more node (flat_map node_words nodes)) (clear_nodes (node ∷ nodes) held h.rels))
-    ∙ ap tree_of (nodes_back (node ∷ nodes) held h.small h.rels 0)
+    (words_of-text_of (flat_map node_words (node ∷ nodes)) (node_before_some node (flat_map node_words nodes)) (clear_nodes (node ∷ nodes) each h.rels))
+    ∙ ap tree_of (nodes_back (node ∷ nodes) each h.small h.rels 0)
     ∙ ap (unless_refused (node ∷ nodes)) (is_tree_no_refusal (node ∷ nodes) h)
 
 -- an answer that is exact gives back a tree that was written, if there is memory
-pub whole_answer : (answer : Result (List Flat) WordsRefusal) (text : List ℕ) → IfOk answer (λ tree. read_tree text ≡ Ok tree)
+pub answer_is_written_tree : (answer : Result (List Flat) WordsRefusal) (text : List ℕ) → IfOk answer (λ tree. read_tree text ≡ Ok tree)
     → IfErr answer (λ why. IsRefusalOf (read_tree text) why) → (nodes : List Flat) → IsTree nodes → All IsNode nodes → text ≡ tree_text nodes
     → MatchResult answer (λ tree. tree ≡ nodes) (λ why. why ≡ refusal.NoMemory)
-whole_answer answer text ok exact nodes h held same = by_answer answer ok exact (ap read_tree same ∙ tree_back nodes h held)
+answer_is_written_tree answer text ok exact nodes h each same = by_answer answer ok exact (ap read_tree same ∙ read_tree-tree_text nodes h each)
   where
     by_answer : (answer : Result (List Flat) WordsRefusal) → IfOk answer (λ tree. read_tree text ≡ Ok tree)
         → IfErr answer (λ why. IsRefusalOf (read_tree text) why) → read_tree text ≡ Ok nodes
@@ -101,9 +94,9 @@ whole_answer answer text ok exact nodes h held same = by_answer answer ok exact 
     by_answer (Err (refusal.Tree why)) ok exact e = absurd (let both : Err (refusal.Tree why) ≡ Ok nodes = sym exact ∙ e in cc)
     by_answer (Err refusal.NoMemory) ok exact e = refl
 
--- so a text that is written by parts is read as the tree whose nodes they are
-pub written : (tree nodes told put : List Flat) (start out : List ℕ) → IsTree tree → nodes ≡ tree → told ≡ nodes → put ≡ nodes → start ≡ []
-    → All IsNode told → out ≡ start ++ tree_text put → read_tree out ≡ Ok tree
-written tree nodes told put start out h is told_is put_is none held text =
-    let held_all : All IsNode tree = subst (λ (ns : List Flat). All IsNode ns) (told_is ∙ is) held in
-    ap read_tree (text ∙ ap (λ (bs : List ℕ). bs ++ tree_text put) none ∙ ap tree_text (put_is ∙ is)) ∙ tree_back tree h held_all
+-- so a text that was put behind nothing is read as the tree whose nodes it has
+pub read_tree-written : (tree nodes put : List Flat) (start out : List ℕ) → IsTree tree → nodes ≡ tree → put ≡ nodes → start ≡ []
+    → All IsNode put → out ≡ start ++ tree_text put → read_tree out ≡ Ok tree
+read_tree-written tree nodes put start out h is put_is none each text =
+    ap read_tree (text ∙ ap (λ (bs : List ℕ). bs ++ tree_text put) none ∙ ap tree_text (put_is ∙ is))
+    ∙ read_tree-tree_text tree h (subst (λ (ns : List Flat). All IsNode ns) (put_is ∙ is) each)

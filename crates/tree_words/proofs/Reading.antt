@@ -1,5 +1,5 @@
 -- What reading nodes, one after the other, rests on.
-use Rattle.std.proofs.Common.{◌≡◌, ℕ, ◌+◌, Bool, true, false, ◌&&◌, nat_le, if◌then◌else◌, List, [], ◌∷◌, ◌++◌, length, Option, Some, None, Result, Ok, Err, refl, sym, ◌∙◌, ap, ap₂, subst, arith, append-nil, append_assoc}
+use Rattle.std.proofs.Common.{◌≡◌, ℕ, ◌+◌, Bool, true, false, ◌&&◌, nat_le, if◌then◌else◌, List, [], ◌∷◌, ◌++◌, Option, Some, None, Result, Ok, Err, refl, sym, ◌∙◌, ap, ap₂, subst, append-nil, append_assoc}
 use Rattle.std.specs.List.{list_all}
 use Rattle.mat_digest.specs.Digests.{read_digest}
 use Rattle.mat_digest.specs.declared.digest.Digest.{Digest}
@@ -8,6 +8,7 @@ use Rattle.mat_path.specs.Names.{rel_of}
 use Rattle.mat_tree.specs.declared.flat.Flat.{Flat}
 use Rattle.mat_tree.specs.declared.flat.What.TheVariants as what
 use Rattle.mat_tree.specs.Trees.{is_small, what_size}
+use Rattle.tree_words.specs.Rests.{none_of}
 use Rattle.tree_words.specs.declared.kind.Kind.{Kind}
 use Rattle.tree_words.specs.declared.kind.Kind.TheVariants as kind
 use Rattle.tree_words.specs.Words.{Place, Reading, at_digest, at_kind, at_rel, at_target, behind_kind, fitting, kind_spelled, node_before, read_from, small_digest, target_spelled}
@@ -19,27 +20,23 @@ abbrev pub nodes_before : List Flat → Reading → Reading
 nodes_before nodes (Ok more) = Ok (nodes ++ more)
 nodes_before nodes (Err k) = Err k
 
-pub none_before : (reading : Reading) → reading ≡ nodes_before [] reading
-none_before (Ok nodes) = refl
-none_before (Err k) = refl
-
 -- one node more before a reading
-pub one_before : (nodes : List Flat) (node : Flat) (reading : Reading)
+one_before : (nodes : List Flat) (node : Flat) (reading : Reading)
     → nodes_before nodes (node_before node reading) ≡ nodes_before (nodes ++ node ∷ []) reading
 one_before nodes node (Ok more) = ap (λ (ns : List Flat). Ok ns) (sym (append_assoc nodes (node ∷ []) more))
 one_before nodes node (Err k) = refl
 
--- a step of the loop
-pub step : (nodes new : List Flat) (node : Flat) (all before behind : Reading) → all ≡ nodes_before nodes before
+-- where a node is read behind others, what is read of all words is what is read behind one node more
+pub read_grows : (nodes new : List Flat) (node : Flat) (all before behind : Reading) → all ≡ nodes_before nodes before
     → before ≡ node_before node behind → new ≡ nodes ++ node ∷ [] → all ≡ nodes_before new behind
-step nodes new node all before behind h read pushed =
+read_grows nodes new node all before behind h read pushed =
     h ∙ ap (nodes_before nodes) read ∙ one_before nodes node behind ∙ ap (λ (ns : List Flat). nodes_before ns behind) (sym pushed)
 
--- its end: no word is left
-pub ended : (nodes : List Flat) (all : Reading) (k : ℕ) (words : List (List ℕ)) → all ≡ nodes_before nodes (read_from at_kind k words)
-    → length words ≡ 0 → all ≡ Ok nodes
-ended nodes all k [] h none = h ∙ ap (λ (ns : List Flat). Ok ns) (append-nil nodes)
-ended nodes all k (word ∷ words) h none = absurd (omega arith)
+-- where no word is left, the nodes are all that is read
+pub read_ends : (nodes : List Flat) (all : Reading) (k : ℕ) (words : List (List ℕ)) → all ≡ nodes_before nodes (read_from at_kind k words)
+    → none_of words ≡ true → all ≡ Ok nodes
+read_ends nodes all k [] h none = h ∙ ap (λ (ns : List Flat). Ok ns) (append-nil nodes)
+read_ends nodes all k (word ∷ words) h none = absurd cc
 
 -- ---- files are small
 
@@ -100,6 +97,6 @@ smalls (word ∷ words) (at_rel w) k nodes small read = by_rel (smalls words) (r
     by_rel rest None e = absurd cc
     by_rel rest (Some rel) e = by_rest rel (read_from at_kind (k + 1) words) (λ ns same. rest at_kind (k + 1) ns tt same) e
 
--- all nodes that are read are small
-pub read_small : (words : List (List ℕ)) (nodes : List Flat) → read_from at_kind 0 words ≡ Ok nodes → list_all is_small nodes ≡ true
-read_small words nodes read = smalls words at_kind 0 nodes tt read
+-- each node that is read is small
+pub read_nodes_small : (words : List (List ℕ)) (nodes : List Flat) → read_from at_kind 0 words ≡ Ok nodes → list_all is_small nodes ≡ true
+read_nodes_small words nodes read = smalls words at_kind 0 nodes tt read

@@ -15,14 +15,14 @@ text_push a [] b bs = refl
 text_push a (next ∷ more) b bs =
     ap (λ (l : List ℕ). a ++ (32 ∷ l)) (text_push next more b bs) ∙ sym (append_assoc a (32 ∷ text_of (next ∷ more)) (32 ∷ text_of (b ∷ bs)))
 
--- some words, of which there is one
+-- words of which there is one
 pub record IsSome (words : List (List ℕ)) : Type 0 where
   pub head : List ℕ
   pub tail : List (List ℕ)
   pub is : words ≡ head ∷ tail
 
 -- each node has a word
-pub some_words : (node : Flat) → IsSome (node_words node)
+some_words : (node : Flat) → IsSome (node_words node)
 some_words node = by_what node.what
   where
     by_what : (w : What) → IsSome (what_words w ++ rel_text node.rel ∷ [])
@@ -30,9 +30,9 @@ some_words node = by_what node.what
     by_what what.Dir = record { head = _; tail = _; is = refl }
     by_what (what.Link target) = record { head = _; tail = _; is = refl }
 
--- so has a list that begins with one
-pub some_more : (node : Flat) (more : List (List ℕ)) → IsSome (node_words node ++ more)
-some_more node more =
+-- so has a list that begins with a node's words
+pub node_before_some : (node : Flat) (more : List (List ℕ)) → IsSome (node_words node ++ more)
+node_before_some node more =
     let some = some_words node in
     record { head = some.head; tail = some.tail ++ more; is = ap (λ (ws : List (List ℕ)). ws ++ more) some.is }
 
@@ -48,13 +48,13 @@ tree_push first front node =
     ap (λ (ws : List (List ℕ)). node_words first ++ ws)
     (flat_map-append node_words front (node ∷ []) ∙ ap (λ (ws : List (List ℕ)). flat_map node_words front ++ ws) (append-nil (node_words node)))
     ∙ sym (append_assoc (node_words first) (flat_map node_words front) (node_words node)) in
-    ap text_of words ∙ text_both (node_words first ++ flat_map node_words front) (node_words node) (some_more first (flat_map node_words front)) (some_words node)
+    ap text_of words ∙ text_both (node_words first ++ flat_map node_words front) (node_words node) (node_before_some first (flat_map node_words front)) (some_words node)
 
--- a step of writing: a space, and the node's text
-pub push_step : (before text spaced new : List ℕ) (first node : Flat) (rest : List Flat) (i : ℕ) → i < length rest → node ≡ get_or rest i node
+-- where a space and the text of the next node are put behind the text of some nodes, the text of one node more stands there
+pub tree_text_grows : (before text spaced new : List ℕ) (first node : Flat) (rest : List Flat) (i : ℕ) → i < length rest → node ≡ get_or rest i node
     → text ≡ before ++ tree_text (first ∷ take i rest) → spaced ≡ text ++ 32 ∷ [] → new ≡ spaced ++ node_text node
     → new ≡ before ++ tree_text (first ∷ take (i + 1) rest)
-push_step before text spaced new first node rest i below item so_far space pushed =
+tree_text_grows before text spaced new first node rest i below item so_far space pushed =
     pushed ∙ ap (λ (l : List ℕ). l ++ node_text node) (space ∙ ap (λ (l : List ℕ). l ++ 32 ∷ []) so_far)
     ∙ append_assoc (before ++ tree_text (first ∷ take i rest)) (32 ∷ []) (node_text node)
     ∙ append_assoc before (tree_text (first ∷ take i rest)) (32 ∷ node_text node)

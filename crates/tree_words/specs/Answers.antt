@@ -1,10 +1,6 @@
 -- What a reader answers.
-use Rattle.std.specs.Prelude.{◌≡◌, true, List, Result, Ok, Err}
-use Rattle.mat_digest.specs.Digests.{IsDigest}
-use Rattle.mat_path.specs.Names.{is_target}
+use Rattle.std.specs.Prelude.{◌≡◌, List, Result, Ok, Err}
 use Rattle.mat_tree.specs.declared.flat.Flat.{Flat}
-use Rattle.mat_tree.specs.declared.flat.What.{What}
-use Rattle.mat_tree.specs.declared.flat.What.TheVariants as what
 use Rattle.tree_words.specs.Words.{Reading}
 use Rattle.tree_words.specs.declared.refusal.WordsRefusal.{WordsRefusal}
 use Rattle.tree_words.specs.declared.refusal.WordsRefusal.TheVariants as refusal

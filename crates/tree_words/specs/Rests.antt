@@ -1,5 +1,5 @@
 -- The words of a text that are left to be read.
-use Rattle.std.specs.Prelude.{◌≡◌, ℕ, ◌+◌, ◌==◌, Bool, List, [], ◌∷◌, Option, Some, None}
+use Rattle.std.specs.Prelude.{◌≡◌, ℕ, ◌+◌, ◌==◌, Bool, true, false, List, [], ◌∷◌, Option, Some, None}
 use Rattle.std.specs.List.{slice_split}
 
 -- a space, which stands between words
@@ -14,6 +14,11 @@ words_of text = slice_split is_space text
 abbrev pub words_left : Option (List ℕ) → List (List ℕ)
 words_left None = []
 words_left (Some text) = words_of text
+
+-- whether there is no word
+abbrev pub none_of : List (List ℕ) → Bool
+none_of [] = true
+none_of (word ∷ words) = false
 
 -- the words from one on, and that one's number
 pub record Rest : Type 0 where

@@ -1,4 +1,4 @@
-//! Trees as words, as the lines of a script have them.
+//! Floor of values: trees as words, as the lines of a script have them.
 //!
 //! The words of a node are `f DIGEST REL` for a file, `x DIGEST REL` for an executable file,
 //! `l TARGET REL` for a link and `d REL` for a directory. The words of a tree are those of the nodes
@@ -6,6 +6,7 @@
 #![tactic(auto)]
 
 mod kind;
+mod numbered;
 mod read;
 mod refusal;
 #[cfg(test)]
@@ -15,4 +16,5 @@ mod write;
 
 pub use read::read_words;
 pub use refusal::WordsRefusal;
+pub use words::Words;
 pub use write::{push_node, write_words};

@@ -1,17 +1,17 @@
 // Reading a tree from words.
-ghost use Rattle.std.specs.Prelude.{◌≡◌, ◌++◌, ◌∷◌, ◌<◌, [], true, All, length, List, Ok, IfErr, IfOk, MatchResult, OnOk};
+ghost use Rattle.std.specs.Prelude.{◌≡◌, ◌++◌, ◌∷◌, ◌<◌, [], true, false, All, length, List, Ok, IfErr, IfOk, MatchResult, OnOk};
 ghost use Rattle.std.specs.List.{list_all};
 ghost use Rattle.mat_path.specs.Names.{rel_of};
 ghost use Rattle.mat_tree.specs.Trees.{IsNode, IsTree, is_small};
 ghost use Rattle.mat_tree.specs.declared.flat.Flat.{Flat as TheFlat};
 ghost use Rattle.tree_words.specs.Answers.{Agrees, IsRefusalOf};
-ghost use Rattle.tree_words.specs.Rests.{words_of};
+ghost use Rattle.tree_words.specs.Rests.{none_of, words_of};
 ghost use Rattle.tree_words.specs.Words.{at_digest, at_kind, at_rel, at_target, digest_spelled, node_before, read_from, read_tree, target_spelled, tree_text};
 ghost use Rattle.tree_words.specs.declared.refusal.WordsRefusal.TheVariants as refusal;
 
 use crate::kind::{Kind, kind_spelled};
+use crate::numbered::Numbered;
 use crate::refusal::WordsRefusal;
-use crate::words::Words;
 use mat_digest::Digest;
 use mat_path::{Memory, PathRefusal, Rel, Target};
 use mat_tree::{Flat, GREATEST_FILE, Tree, TreeRefusal, What};
@@ -50,7 +50,7 @@ fn read_nodes(alloc: Global, text: &[u8]) -> Result<Vec<Flat>, WordsRefusal>
     ensures read { Agrees result (read_from at_kind 0 (words_of text.now)) (λ nodes. Ok nodes.items) }
     ensures small { IfOk result (λ nodes. list_all is_small nodes.items ≡ true) }
 {
-    let mut words = Words::of(text);
+    let mut words = Numbered::of(text);
     let mut nodes = Vec::new(alloc);
     'nodes: while !words.is_empty() {
         let node = read_node(alloc, &mut words)?;
@@ -71,8 +71,8 @@ fn push(nodes: &mut Vec<Flat>, node: Flat) -> Result<(), WordsRefusal>
 }
 
 // The next node.
-fn read_node(alloc: Global, words: &mut Words<'_>) -> Result<Flat, WordsRefusal>
-    requires { 0 < length words.old.words }
+fn read_node(alloc: Global, words: &mut Numbered<'_>) -> Result<Flat, WordsRefusal>
+    requires { none_of words.old.words ≡ false }
     ensures read { Agrees result (read_from at_kind words.old.place words.old.words)
         (λ node. node_before node (read_from at_kind words.new.place words.new.words)) }
     ensures shorter { OnOk result (length words.new.words < length words.old.words) }
@@ -82,8 +82,8 @@ fn read_node(alloc: Global, words: &mut Words<'_>) -> Result<Flat, WordsRefusal>
 }
 
 // What a node is, from its first word on.
-fn read_what(alloc: Global, words: &mut Words<'_>) -> Result<What, WordsRefusal>
-    requires { 0 < length words.old.words }
+fn read_what(alloc: Global, words: &mut Numbered<'_>) -> Result<What, WordsRefusal>
+    requires { none_of words.old.words ≡ false }
     ensures read { Agrees result (read_from at_kind words.old.place words.old.words)
         (λ w. read_from (at_rel w) words.new.place words.new.words) }
     ensures shorter { OnOk result (length words.new.words < length words.old.words) }
@@ -100,7 +100,7 @@ fn read_what(alloc: Global, words: &mut Words<'_>) -> Result<What, WordsRefusal>
 }
 
 // What a file is, from its digest on.
-fn read_file(words: &mut Words<'_>, exec: bool) -> Result<What, WordsRefusal>
+fn read_file(words: &mut Numbered<'_>, exec: bool) -> Result<What, WordsRefusal>
     ensures read { Agrees result (read_from (at_digest exec) words.old.place words.old.words)
         (λ w. read_from (at_rel w) words.new.place words.new.words) }
     ensures shorter { OnOk result (length words.new.words < length words.old.words) }
@@ -114,7 +114,7 @@ fn read_file(words: &mut Words<'_>, exec: bool) -> Result<What, WordsRefusal>
 }
 
 // What a link is, from its target on.
-fn read_link(alloc: Global, words: &mut Words<'_>) -> Result<What, WordsRefusal>
+fn read_link(alloc: Global, words: &mut Numbered<'_>) -> Result<What, WordsRefusal>
     ensures read { Agrees result (read_from at_target words.old.place words.old.words)
         (λ w. read_from (at_rel w) words.new.place words.new.words) }
     ensures shorter { OnOk result (length words.new.words < length words.old.words) }
@@ -129,7 +129,7 @@ fn read_link(alloc: Global, words: &mut Words<'_>) -> Result<What, WordsRefusal>
 }
 
 // A node that is this, from its rel on.
-fn read_rel(alloc: Global, words: &mut Words<'_>, what: What) -> Result<Flat, WordsRefusal>
+fn read_rel(alloc: Global, words: &mut Numbered<'_>, what: What) -> Result<Flat, WordsRefusal>
     ensures read { Agrees result (read_from (at_rel what) words.old.place words.old.words)
         (λ node. node_before node (read_from at_kind words.new.place words.new.words)) }
     ensures shorter { OnOk result (length words.new.words < length words.old.words) }

@@ -1,46 +1,38 @@
 // The words of a text, one after the other.
-ghost use Rattle.std.specs.Prelude.{◌≡◌, ◌∷◌, ◌↔◌, [], length, IsTrue, MatchResult, position};
+ghost use Rattle.std.specs.Prelude.{◌≡◌, ◌∷◌, [], position, IfNone, MatchOption};
 ghost use Rattle.std.specs.Option.{option_copied};
-ghost use Rattle.tree_words.specs.Rests.{is_space, words_of, words_left, Takes};
-ghost use Rattle.tree_words.specs.declared.refusal.WordsRefusal.TheVariants as refusal;
+ghost use Rattle.tree_words.specs.Rests.{is_space, none_of, words_left, words_of};
 
-use crate::refusal::WordsRefusal;
 use std::marker::Model;
 
-/// The words of a text from one on, and that one's number.
+/// The words of a text from one on, seen as their list. Between two words stands one space.
 #[derive(Drop)]
-pub(crate) struct Words<'a> {
+pub struct Words<'a> {
     rest: Option<&'a [u8]>,
-    place: usize,
 }
 
 impl<'a> Model for Words<'a> {
-    ghost use Rattle.std.specs.Prelude.{◌+◌, ◌<◌, ◌^◌, length};
+    ghost use Rattle.std.specs.Prelude.{ℕ, List};
     ghost use Rattle.std.specs.Option.{option_copied};
-    ghost use Rattle.tree_words.specs.Rests.{Rest, words_left};
+    ghost use Rattle.tree_words.specs.Rests.{words_left};
 
-    ghost Value = { Rest };
+    ghost Value = { List (List ℕ) };
 
-    ghost view = { λ w. record { place = w.place; words = words_left (option_copied w.rest) } };
-
-    ghost invariant = { λ w. w.place + length (words_left (option_copied w.rest)) < 2 ^ 64 };
+    ghost view = { λ w. words_left (option_copied w.rest) };
 }
 
 impl<'a> Words<'a> {
-    // The words of a text, from the first on.
-    pub(crate) fn of(text: &'a [u8]) -> Words<'a>
-        ensures words { result.words ≡ words_of text.now }
-        ensures place { result.place ≡ 0 }
+    /// The words of a text, from the first on. The empty text has one word, which is empty. Takes no
+    /// memory, nor do the other methods.
+    pub fn of(text: &'a [u8]) -> Words<'a>
+        ensures { result ≡ words_of text.now }
     {
-        Words {
-            rest: Some(text),
-            place: 0,
-        }
+        Words { rest: Some(text) }
     }
 
-    // Whether no word is left.
-    pub(crate) fn is_empty(&self) -> bool
-        ensures { IsTrue result ↔ length self.now.words ≡ 0 }
+    /// Whether no word is left.
+    pub fn is_empty(&self) -> bool
+        ensures { result ≡ none_of self.now }
     {
         match self.rest {
             Some(_) => false,
@@ -48,25 +40,22 @@ impl<'a> Words<'a> {
         }
     }
 
-    // The number of the next word.
-    pub(crate) fn place(&self) -> usize
-        ensures { result ≡ self.now.place }
+    /// Takes the next word, where one is left.
+    pub fn next(&mut self) -> Option<&'a [u8]>
+        ensures word { MatchOption result (self.old ≡ []) (λ word. self.old ≡ word.now ∷ self.new) }
+        ensures none { IfNone result (self.new ≡ []) }
     {
-        self.place
-    }
-
-    // Takes the next word. Where none is left, the refusal has its number.
-    pub(crate) fn next(&mut self) -> Result<&'a [u8], WordsRefusal>
-        ensures { MatchResult result (λ word. Takes self.old self.new word.now)
-            (λ why. (self.old.words ≡ []) × (why ≡ refusal.Word self.old.place)) }
-    {
-        let Some(text) = self.rest else {
-            return Err(WordsRefusal::Word(self.place));
-        };
+        let text = self.rest?;
         let (word, rest) = cut(text);
         self.rest = rest;
-        self.place += 1;
-        Ok(word)
+        Some(word)
+    }
+
+    /// The text of the words that are left, where one is.
+    pub fn text(self) -> Option<&'a [u8]>
+        ensures { MatchOption result (self.entry ≡ []) (λ text. self.entry ≡ words_of text.now) }
+    {
+        self.rest
     }
 }
 
