@@ -1,0 +1,4 @@
+pub mod ListLemmas
+pub mod OrderKept
+pub mod TurnLemmas
+pub mod CloseLemmas
