@@ -1,6 +1,6 @@
 -- The rules of a book: what is true of its rows, its gate, its holds and its tickets at each point of a history.
 use Rattle.std.specs.Prelude.{◌≡◌, ◌≢◌, ◌⊎◌, ◌<◌, ◌≤◌, ℕ, nat_lt, ◌&&◌, Bool, true, false, not, List, [], ◌∷◌, ◌++◌, length, map, Option, Some, None}
-use Rattle.std.specs.List.{All, AllPairs, Contains, list_any}
+use Rattle.std.specs.List.{All, AllPairs, Contains, list_all, list_any}
 use Rattle.std.specs.Option.{is_none}
 use Rattle.mat_tree.specs.Sums.{sum_of}
 use Rattle.mat_model.specs.declared.book.Book.{Book}
@@ -8,7 +8,7 @@ use Rattle.mat_model.specs.declared.book.Hold.{Hold}
 use Rattle.mat_model.specs.declared.book.Row.{Row}
 use Rattle.mat_model.specs.declared.book.Ticket.{Ticket}
 use Rattle.mat_model.specs.declared.book.Waiter.{Waiter}
-use Rattle.mat_model.specs.Gate.{is_command, is_state, is_nobody}
+use Rattle.mat_model.specs.Gate.{gate_of, is_known, is_command, is_state, is_nobody}
 use Rattle.mat_model.specs.Rows.{are_apart, cover, covers}
 use Rattle.mat_model.specs.Tickets.{is_open}
 
@@ -22,6 +22,15 @@ command_of waiter = waiter.command
 
 abbrev pub commands : Book → List ℕ
 commands book = book.live ++ map command_of book.waiting
+
+-- whether numbers ascend strictly
+abbrev pub are_ascending : List ℕ → Bool
+are_ascending [] = true
+are_ascending (number ∷ numbers) = list_all (nat_lt number) numbers && are_ascending numbers
+
+-- a command is live or waits
+abbrev pub IsCommandOf : Book → ℕ → Type 0
+IsCommandOf book command = is_known command (gate_of book) ≡ true
 
 -- whether nobody waits, or the front of the queue can't be live yet: 64 are live, or somebody is, and in another state
 abbrev pub is_held_back : List ℕ → Option ℕ → List Waiter → Bool
@@ -64,6 +73,9 @@ pub record IsBook (next : ℕ) (book : Book) : Type 0 where
   pub state : is_none book.state ≡ is_nobody book.live
   -- where somebody waits, 64 are live, or somebody is live and the front waits for another state
   pub waits : is_held_back book.live book.state book.waiting ≡ true
+  -- the soft commands ascend, and each of them is live or waits
+  pub ordered : are_ascending book.soft ≡ true
+  pub soft : All (IsCommandOf book) book.soft
   -- no command holds a path twice
   pub holds : AllPairs IsOtherHold book.holds
   -- the numbers of the tickets ascend strictly
@@ -90,5 +102,6 @@ pub record IsIdle (book : Book) : Type 0 where
   pub live : book.live ≡ []
   pub state : book.state ≡ None
   pub waiting : book.waiting ≡ []
+  pub soft : book.soft ≡ []
   pub holds : book.holds ≡ []
   pub tickets : book.tickets ≡ []

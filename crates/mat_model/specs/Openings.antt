@@ -51,6 +51,7 @@ recovered opening = record {
   state = None;
   live = [];
   waiting = [];
+  soft = [];
   rows = opening.rows;
   holds = [];
   tickets = [];

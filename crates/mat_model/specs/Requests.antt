@@ -1,20 +1,22 @@
 -- What each request is answered, and what it does to the book. A request's number is the history number of its entry.
-use Rattle.std.specs.Prelude.{ℕ, ◌==◌, max, ◌&&◌, ◌||◌, Bool, not, if◌then◌else◌, List, [], ◌∷◌, ◌++◌, filter, find, count_by, Option, Some, None}
+use Rattle.std.specs.List.{list_any}
+use Rattle.std.specs.Prelude.{ℕ, ◌==◌, map, max, ◌&&◌, ◌||◌, Bool, true, false, not, if◌then◌else◌, List, [], ◌∷◌, ◌++◌, filter, find, count_by, Option, Some, None}
 use Rattle.mat_tree.specs.declared.sum.Sum.{Sum}
 use Rattle.mat_tree.specs.Trees.{same_sum}
 use Rattle.mat_model.specs.declared.book.Book.{Book}
 use Rattle.mat_model.specs.declared.book.Hold.{Hold}
 use Rattle.mat_model.specs.declared.book.Row.{Row}
 use Rattle.mat_model.specs.declared.book.Ticket.{Ticket}
+use Rattle.mat_model.specs.declared.answers.Answer.TheVariants as answer
 use Rattle.mat_model.specs.declared.answers.Reply.{Reply}
 use Rattle.mat_model.specs.declared.answers.Reply.TheVariants as reply
 use Rattle.mat_model.specs.declared.requests.Asked.{Asked}
 use Rattle.mat_model.specs.declared.requests.Asked.TheVariants as asked
 use Rattle.mat_model.specs.Cleaning.{clean, invalidate}
 use Rattle.mat_model.specs.Declarations.{copy, declare_tree, write}
-use Rattle.mat_model.specs.Gate.{Served, depart, enter, if_live, is_live, is_waiting}
+use Rattle.mat_model.specs.Gate.{Passed, Served, depart, gate_of, if_live, is_beside, is_command, is_known, pass, with_gate}
 use Rattle.mat_model.specs.Rows.{cover, is_at_path, used}
-use Rattle.mat_model.specs.Tickets.{is_open, used_by, with_hold}
+use Rattle.mat_model.specs.Tickets.{is_open, used_by, with_answer, with_hold}
 
 -- a sum is compared with that of the row at a path, if there is one
 abbrev pub match_row : ℕ → List (List ℕ) → Sum → Book → Option Row → Served
@@ -58,6 +60,37 @@ ensure_row number command path book (Some row) =
 abbrev pub ensure : ℕ → ℕ → List (List ℕ) → Book → Served
 ensure number command path book = if_live command book (ensure_row number command path book (cover book.rows path))
 
+-- whether a hold is of none of some commands
+abbrev pub is_hold_beside : List ℕ → Hold → Bool
+is_hold_beside commands hold = is_beside commands hold.command
+
+-- whether a ticket is open and of one of some commands
+abbrev pub is_open_among : List ℕ → Ticket → Bool
+is_open_among commands ticket = is_open ticket && list_any (is_command ticket.command) commands
+
+-- a ticket with the answer that a command took the place of its own, if it is open and of one of some commands
+abbrev pub preempted_ticket : ℕ → ℕ → List ℕ → Ticket → Ticket
+preempted_ticket number command commands ticket =
+    if is_open_among commands ticket then with_answer number (answer.Preempted command) ticket else ticket
+
+-- the book once the holds of some commands went, and their open tickets are answered that a command took their place
+abbrev pub preempted : ℕ → ℕ → List ℕ → Book → Book
+preempted number command commands book = record book {
+  holds = filter (is_hold_beside commands) book.holds;
+  tickets = map (preempted_ticket number command commands) book.tickets;
+}
+
+-- the book behind the gate that a command came to
+abbrev pub passed : ℕ → ℕ → Passed → Book → Served
+passed number command through book = record {
+  reply = through.reply;
+  book = with_gate through.gate (if through.took then preempted number command book.live book else book);
+}
+
+-- a command comes
+abbrev pub enter : ℕ → ℕ → ℕ → Bool → Bool → Book → Served
+enter number command state soft refuse book = passed number command (pass command state soft refuse (gate_of book)) book
+
 -- whether a ticket is open and a command's
 abbrev pub is_open_of : ℕ → Ticket → Bool
 is_open_of command ticket = is_open ticket && (ticket.command == command)
@@ -70,15 +103,15 @@ is_hold_of_other command hold = not (hold.command == command)
 abbrev pub leave_with : ℕ → ℕ → Book → Served
 leave_with count command book =
     if count == 0 then record {
-      reply = reply.Left (depart command book).count;
-      book = record ((depart command book).book) { holds = filter (is_hold_of_other command) book.holds };
+      reply = reply.Left (depart command (gate_of book)).count;
+      book = with_gate (depart command (gate_of book)).gate (record book { holds = filter (is_hold_of_other command) book.holds });
     }
     else record { reply = reply.Busy count; book = book }
 
 -- a command goes
 abbrev pub leave : ℕ → Book → Served
 leave command book =
-    if is_live command book || is_waiting command book then leave_with (count_by (is_open_of command) book.tickets) command book
+    if is_known command (gate_of book) then leave_with (count_by (is_open_of command) book.tickets) command book
     else record { reply = reply.Unknown; book = book }
 
 -- the book at a moment: its own, or a later one that is handed
@@ -93,7 +126,7 @@ pub record RequestContext : Type 0 where
 
 -- a request, at a book's own moment
 abbrev pub serve_now : ℕ → RequestContext → Asked → Book → Served
-serve_now number context (asked.Enter command state) book = enter command state book
+serve_now number context (asked.Enter command state soft refuse) book = enter number command state soft refuse book
 serve_now number context (asked.Leave command) book = leave command book
 serve_now number context (asked.Write command path sum) book = write number command path sum book
 serve_now number context (asked.Declare command path tree) book = declare_tree number command path tree book

@@ -28,7 +28,7 @@ spent point = length point.history + length point.work.jobs + length point.book.
 
 -- how many entries a request with its reply needs: an enter also that of its leave, and a leave that was granted none, since its enter took it
 abbrev pub entries_for : Asked → Reply → ℕ
-entries_for (asked.Enter command state) said = 2
+entries_for (asked.Enter command state soft refuse) said = 2
 entries_for (asked.Leave command) (reply.Left count) = 0
 entries_for _ _ = 1
 

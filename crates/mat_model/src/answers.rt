@@ -34,6 +34,8 @@ pub enum Answer {
     Fault(FaultNote),
     /// Want of memory.
     NoMemory,
+    /// This command came and took the place of the one that asked.
+    Preempted(u32),
 }
 
 /// A row that a clean removed, or would remove: its path, and the bytes of its files.
@@ -80,6 +82,8 @@ pub enum Recorded {
 pub enum Reply {
     /// The command is live.
     Entered,
+    /// The command is live, and so many soft ones went for it.
+    Took(u64),
     /// The command left, and so many were admitted then.
     Left(u64),
     /// A new row was declared under this stamp.
@@ -117,6 +121,8 @@ pub enum Reply {
     NotLive,
     /// The command is live or waits already.
     Known,
+    /// Another state is live, this one, and the command would not wait for its own.
+    Differs(u64),
     /// The command waits, at this place of the queue, from 1.
     Queued(u64),
     /// The command is neither live nor waiting.

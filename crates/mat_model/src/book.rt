@@ -57,6 +57,8 @@ pub struct Book {
     pub state: Option<u64>,
     pub live: Items<u32>,
     pub waiting: Items<Waiter>,
+    /// The soft commands that are live or wait, ascending.
+    pub soft: Items<u32>,
     pub rows: Items<Row>,
     pub holds: Items<Hold>,
     pub tickets: Items<Ticket>,

@@ -75,6 +75,7 @@ impl Reply {
     {
         Ok(match self {
             Reply::Entered => Reply::Entered,
+            Reply::Took(count) => Reply::Took(*count),
             Reply::Left(count) => Reply::Left(*count),
             Reply::Declared(stamp) => Reply::Declared(*stamp),
             Reply::Kept(stamp) => Reply::Kept(*stamp),
@@ -97,6 +98,7 @@ impl Reply {
             Reply::Flushed(count) => Reply::Flushed(*count),
             Reply::NotLive => Reply::NotLive,
             Reply::Known => Reply::Known,
+            Reply::Differs(state) => Reply::Differs(*state),
             Reply::Queued(place) => Reply::Queued(*place),
             Reply::Unknown => Reply::Unknown,
             Reply::Busy(count) => Reply::Busy(*count),
@@ -177,9 +179,16 @@ impl Asked {
         ensures ok { IfOk result (λ copy. copy ≡ self.now) }
     {
         Ok(match self {
-            Asked::Enter { command, state } => Asked::Enter {
+            Asked::Enter {
+                command,
+                state,
+                soft,
+                refuse,
+            } => Asked::Enter {
                 command: *command,
                 state: *state,
+                soft: *soft,
+                refuse: *refuse,
             },
             Asked::Leave { command } => Asked::Leave { command: *command },
             Asked::Write { command, path, sum } => Asked::Write {
@@ -268,12 +277,14 @@ impl Book {
     {
         let live = Vec::from_slice(alloc, self.live.as_slice())?;
         let waiting = Vec::from_slice(alloc, self.waiting.as_slice())?;
+        let soft = Vec::from_slice(alloc, self.soft.as_slice())?;
         Ok(Book {
             first: self.first,
             now: self.now,
             state: self.state,
             live: Items::of(live),
             waiting: Items::of(waiting),
+            soft: Items::of(soft),
             rows: Items::of(copy_all(alloc, self.rows.as_slice())?),
             holds: Items::of(copy_all(alloc, self.holds.as_slice())?),
             tickets: Items::of(copy_all(alloc, self.tickets.as_slice())?),

@@ -15,10 +15,13 @@ pub enum CleanMode {
 /// What a command asks of the daemon.
 #[derive(Debug, Drop)]
 pub enum Request {
-    /// To become live on a state.
+    /// To become live on a state. A soft command may be ended by one that comes with another state; one that refuses
+    /// another state would rather be told which is live than wait.
     Enter {
         command: u32,
         state: u64,
+        soft: bool,
+        refuse: bool,
     },
     /// To go, with its holds.
     Leave {
@@ -78,6 +81,8 @@ pub enum Asked {
     Enter {
         command: u32,
         state: u64,
+        soft: bool,
+        refuse: bool,
     },
     Leave {
         command: u32,

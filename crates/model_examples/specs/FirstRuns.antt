@@ -24,6 +24,7 @@ empty_book = record {
   state = None;
   live = [];
   waiting = [];
+  soft = [];
   rows = [];
   holds = [];
   tickets = [];
@@ -47,7 +48,7 @@ deep_path = codes "out" ∷ codes "f" ∷ codes "x" ∷ []
 
 -- the event that a command comes for a state
 abbrev pub enters : ℕ → ℕ → Event
-enters command state = event.Asked (asked.Enter command state)
+enters command state = event.Asked (asked.Enter command state false false)
 
 -- the event that a command writes a file, not executable, of a digest
 abbrev pub writes : ℕ → List (List ℕ) → Digest → Event

@@ -7,3 +7,5 @@ pub mod CopyRuns
 pub mod StoreRuns
 pub mod FailureRuns
 pub mod RoomRuns
+pub mod PreemptionRuns
+pub mod OpeningRuns

@@ -8,5 +8,7 @@ pub mod declare;
 pub mod failure;
 pub mod first;
 pub mod gate;
+pub mod opening;
+pub mod preemption;
 pub mod room;
 pub mod store;

@@ -1,7 +1,8 @@
 -- Answers are true: what a request answers is not declared any more, and what the end of a make answers stands.
+use Rattle.mat_model.specs.Gate.{is_command}
 use Rattle.mat_path.proofs.Elements.{contains_map}
 use Rattle.mat_path.proofs.SameNames.{same_names-eq}
-use Rattle.std.proofs.Common.{◌≡◌, ℕ, zero, suc, ◌==◌, true, false, not, ◌&&◌, List, [], ◌∷◌, ◌++◌, length, drop, Option, Some, None, cond, refl, sym, ap, ap₂, ◌∙◌, map, find}
+use Rattle.std.proofs.Common.{Bool, ◌≡◌, ℕ, zero, suc, ◌==◌, true, false, not, ◌&&◌, List, [], ◌∷◌, ◌++◌, length, drop, Option, Some, None, cond, refl, sym, ap, ap₂, ◌∙◌, map, find, ◌⊎◌, inl, inr}
 use Rattle.std.specs.List.{list_any, filter, slice_get}
 use Rattle.std.specs.Option.{option_map}
 use Rattle.std.proofs.lemmas.Bool.{and_parts, both_ways, eqb-true, not-true}
@@ -18,11 +19,12 @@ use Rattle.mat_model.specs.declared.book.Ticket.{Ticket}
 use Rattle.mat_model.specs.declared.entries.Outcome.TheVariants as outcome
 use Rattle.mat_model.specs.declared.entries.Task.TheVariants as task
 use Rattle.mat_model.specs.declared.requests.Asked.{Asked}
+use Rattle.mat_model.specs.declared.requests.Asked.TheVariants as asked
 use Rattle.mat_model.specs.Rows.{covers, is_at_path, is_clear_of, overlaps_row, put_row, standing_row}
 use Rattle.mat_model.specs.Tickets.{answered_by, is_lost, is_open, left_ticket, waits_for, with_answer}
-use Rattle.mat_model.specs.Requests.{RequestContext, serve}
+use Rattle.mat_model.specs.Requests.{RequestContext, serve, is_open_among, preempted_ticket}
 use Rattle.mat_model.specs.Work.{end_make, finish, is_declared}
-use Rattle.model_laws.specs.Laws.{IsAnswered, IsLeftOut}
+use Rattle.model_laws.specs.Laws.{IsAnswered, IsLeftOut, IsPreempted}
 use Rattle.model_laws.proofs.Changes.{standing-path}
 use Rattle.model_laws.proofs.Elements.{found_contains, found_passes}
 use Rattle.model_laws.proofs.Serving.{served_by}
@@ -42,17 +44,19 @@ not_both o ticket other is lies was shut =
 pub serve_true : (number moment : ℕ) (context : RequestContext) (request : Asked) (book : Book) (k : ℕ) (ticket other : Ticket) →
     slice_get book.tickets k ≡ Some ticket → is_open ticket ≡ true →
     slice_get (serve number moment context request book).book.tickets k ≡ Some other → is_open other ≡ false →
-    IsLeftOut number (serve number moment context request book).book.rows ticket other
+    IsLeftOut number (serve number moment context request book).book.rows ticket other ⊎ IsPreempted number request book.live ticket other
 serve_true number moment context request book k ticket other is lies =
-    served_by (λ (rows : List Row) (tickets : List Ticket). slice_get tickets k ≡ Some other → is_open other ≡ false → IsLeftOut number rows ticket other)
+    served_by (λ (rows : List Row) (tickets : List Ticket). slice_get tickets k ≡ Some other → is_open other ≡ false →
+    IsLeftOut number rows ticket other ⊎ IsPreempted number request book.live ticket other)
     number moment context request book (record {
       same = λ was shut. absurd (not_both (slice_get book.tickets k) ticket other is lies was shut);
+      takes = λ command state soft refuse by was shut. inr (gone_for command state soft refuse by was shut);
       asks = λ path n more was shut.
           absurd (not_both (slice_get (book.tickets ++ more) k) ticket other (get-append book.tickets more k ticket is) lies was shut);
       uses = λ path n was shut. absurd (not_both (slice_get book.tickets k) ticket other is lies was shut);
       puts = λ path new at by was shut.
-          lost (filter (overlaps_row path) book.rows) (put_row new (filter (is_clear_of path) book.rows)) was shut;
-      removes = λ gone left opposite disturbed was shut. lost (filter gone book.rows) (filter left book.rows) was shut;
+          inl (lost (filter (overlaps_row path) book.rows) (put_row new (filter (is_clear_of path) book.rows)) was shut);
+      removes = λ gone left opposite disturbed was shut. inl (lost (filter gone book.rows) (filter left book.rows) was shut);
     })
   where
     lost : (removed left : List Row) → slice_get (map (left_ticket number removed left) book.tickets) k ≡ Some other → is_open other ≡ false →
@@ -69,6 +73,29 @@ serve_true number moment context request book k ticket other is lies =
                 not-true (list_any (covers ticket.asked) left)
                     (and_parts (is_open ticket && list_any (covers ticket.asked) removed) (not (list_any (covers ticket.asked) left)) gone).1,
               )
+          | false ↦ λ stays same. absurd (not_both (Some ticket) ticket other refl lies same shut)
+        ] refl now
+
+    gone_for : (command state : ℕ) (soft refuse : Bool) → request ≡ asked.Enter command state soft refuse →
+        slice_get (map (preempted_ticket number command book.live) book.tickets) k ≡ Some other → is_open other ≡ false →
+        IsPreempted number request book.live ticket other
+    gone_for command state soft refuse by was shut =
+        let now : Some (preempted_ticket number command book.live ticket) ≡ Some other =
+        sym (slice_get-map (preempted_ticket number command book.live) book.tickets k
+        ∙ ap (option_map (preempted_ticket number command book.live)) is) ∙ was in
+        elim (is_open_among book.live ticket) as
+        (λ b. is_open_among book.live ticket ≡ b → Some (cond b (with_answer number (answer.Preempted command) ticket) ticket) ≡ Some other →
+        IsPreempted number request book.live ticket other) [
+          | true ↦ λ among same.
+              let that : with_answer number (answer.Preempted command) ticket ≡ other = cc in record {
+                command = command;
+                state = state;
+                soft = soft;
+                refuse = refuse;
+                asks = by;
+                live = (and_parts (is_open ticket) (list_any (is_command ticket.command) book.live) among).1;
+                answered = sym (ap (λ (t : Ticket). t.answered) that);
+              }
           | false ↦ λ stays same. absurd (not_both (Some ticket) ticket other refl lies same shut)
         ] refl now
 

@@ -61,6 +61,7 @@ pub serve_apart : (number moment : ℕ) (context : RequestContext) (request : As
 serve_apart number moment context request book apart =
     served_by (λ (rows : List Row) (tickets : List Ticket). are_apart rows ≡ true) number moment context request book (record {
       same = apart;
+      takes = λ command state soft refuse is. apart;
       asks = λ path n more. used_apart path n book.rows apart;
       uses = λ path n. used_apart path n book.rows apart;
       puts = λ path new at is.

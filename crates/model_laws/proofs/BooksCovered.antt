@@ -1,4 +1,5 @@
 -- The rule of the open tickets of a book, after a request and after the end of a job: a row that doesn't stand covers what each one asks for.
+use Rattle.mat_model.specs.Requests.{preempted_ticket}
 use Rattle.mat_path.proofs.Elements.{contains_filter, contains_map, filtered_contains}
 use Rattle.mat_path.proofs.Overlaps.{overlap-refl}
 use Rattle.mat_path.proofs.SameNames.{same_names-eq}
@@ -20,7 +21,7 @@ use Rattle.mat_model.specs.Tickets.{answered_by, answered_by_any, is_lost, is_op
 use Rattle.mat_model.specs.Work.{is_declared}
 use Rattle.model_laws.proofs.BooksLists.{all-mapped, any_contains, contains_any}
 use Rattle.model_laws.proofs.BooksRows.{apart_same, cover_same, put_row_cases}
-use Rattle.model_laws.proofs.BooksTickets.{failed_cases, left_cases, made_cases}
+use Rattle.model_laws.proofs.BooksTickets.{failed_cases, left_cases, made_cases, preempted_cases}
 use Rattle.model_laws.proofs.PutRows.{contains_put}
 use Rattle.model_laws.proofs.Elements.{found_contains}
 use Rattle.model_laws.proofs.Serving.{Changes, Endings}
@@ -126,8 +127,11 @@ pub asked_awaited : (number : ℕ) (request : Asked) (book : Book) → are_apart
     Changes (λ (b : Book). All (IsAwaited b.rows) b.tickets) number request book
 asked_awaited number request book apart awaited = record {
   same = awaited;
-  enters = λ command state is new may. awaited;
-  queues = λ command state is new may. awaited;
+  enters = λ command state soft refuse is new may. awaited;
+  takes = λ command state soft refuse is new may.
+      all-mapped (IsAwaited book.rows) (IsAwaited book.rows) (preempted_ticket number command book.live)
+      (λ ticket waits. preempted_cases (IsAwaited book.rows) number command book.live ticket (λ lies. absurd cc) (λ stays. waits)) book.tickets awaited;
+  queues = λ command state soft refuse is new may told. awaited;
   leaves = λ command is none. awaited;
   puts = λ command path tree is.
       let removed = filter (overlaps_row path) book.rows in

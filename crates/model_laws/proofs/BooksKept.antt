@@ -1,8 +1,9 @@
 -- The rules of a book together: each event keeps them, and so does each history. What they say of an open ticket and of who waits.
+use Rattle.model_laws.proofs.BooksSoft.{AreSoft, asked_soft}
 use Rattle.mat_model.specs.Openings.{IsOpening, recovered}
 use Rattle.mat_model.specs.declared.opening.Opening.{Opening}
 use Rattle.std.proofs.Common.{◌≡◌, ◌≢◌, ℕ, ◌+◌, ◌<◌, ◌≤◌, ◌==◌, max, nat_lt, true, false, ◌&&◌, List, [], ◌∷◌, ◌++◌, Option, Some, None, inl, inr, refl, sym, ap, subst, ◌∙◌, ◌⊎◌, map, Contains, count_by, length, length-append, arith}
-use Rattle.std.specs.List.{All, AllPairs}
+use Rattle.std.specs.List.{All, AllPairs, list_any}
 use Rattle.std.specs.Option.{is_none}
 use Rattle.std.proofs.lemmas.Bool.{and_cases, and_from, both_ways, eq-eqb, eqb-true, false_from_ne_true, ltb-false, not-true, or_left}
 use Rattle.std.proofs.Math.Nat.{add_assoc}
@@ -20,8 +21,8 @@ use Rattle.mat_model.specs.declared.entries.Entry.{Entry}
 use Rattle.mat_model.specs.declared.entries.Outcome.{Outcome}
 use Rattle.mat_model.specs.declared.entries.Task.{Task}
 use Rattle.mat_model.specs.declared.requests.Asked.{Asked}
-use Rattle.mat_model.specs.Books.{IsAsking, IsAwaited, IsAwaitedOnce, IsBook, IsIdle, IsOtherHold, IsSummed, WaitsRightly, command_of, commands, is_held_back, lies_over, number_of}
-use Rattle.mat_model.specs.Gate.{is_live, is_nobody, is_state, is_waiting}
+use Rattle.mat_model.specs.Books.{IsAsking, IsAwaited, IsAwaitedOnce, IsBook, IsCommandOf, IsIdle, IsOtherHold, IsSummed, WaitsRightly, are_ascending, command_of, commands, is_held_back, lies_over, number_of}
+use Rattle.mat_model.specs.Gate.{is_live, is_nobody, is_state, is_waiter}
 use Rattle.mat_model.specs.History.{Point, after, after_all, request_context, book_of, next_number, opened, point_of}
 use Rattle.model_laws.specs.Laws.{IsGated}
 use Rattle.mat_model.specs.Requests.{RequestContext, at_moment, is_open_of, leave, serve}
@@ -47,13 +48,17 @@ serve_rules number moment context request book rules =
     let gated : IsGated (serve number moment context request book).book = serve_gated number moment context request book (rules.few, rules.state) in
     let numbered : AreNumbered (number + 1) (serve number moment context request book).book.tickets =
     asked_by (λ (b : Book). AreNumbered (number + 1) b.tickets) number context request now
-    (asked_numbered number request now (rules.ascending, rules.below)) in record {
+    (asked_numbered number request now (rules.ascending, rules.below)) in
+    let softs : AreSoft (serve number moment context request book).book =
+    asked_by AreSoft number context request now (asked_soft number request now (rules.ordered, rules.soft)) in record {
       apart = serve_apart number moment context request book rules.apart;
       sums = asked_by (λ (b : Book). All IsSummed b.rows) number context request now (asked_summed number request now rules.sums);
       once = asked_by (λ (b : Book). AllPairs ◌≢◌ (commands b)) number context request now (asked_once number request now rules.once);
       few = gated.0;
       state = gated.1;
       waits = asked_by (λ (b : Book). is_held_back b.live b.state b.waiting ≡ true) number context request now (asked_held number request now rules.waits);
+      ordered = softs.0;
+      soft = softs.1;
       holds = asked_by (λ (b : Book). AllPairs IsOtherHold b.holds) number context request now (asked_holds number request now rules.holds);
       ascending = numbered.0;
       below = numbered.1;
@@ -76,6 +81,8 @@ finish_rules number task out how book rules =
       few = gated.0;
       state = gated.1;
       waits = beside (λ (b : Book). is_held_back b.live b.state b.waiting ≡ true) (λ rows tickets. rules.waits);
+      ordered = beside (λ (b : Book). are_ascending b.soft ≡ true) (λ rows tickets. rules.ordered);
+      soft = beside (λ (b : Book). All (IsCommandOf b) b.soft) (λ rows tickets. rules.soft);
       holds = beside (λ (b : Book). AllPairs IsOtherHold b.holds) (λ rows tickets. rules.holds);
       ascending = numbered.0;
       below = numbered.1;
@@ -101,6 +108,8 @@ refuse_rules number begun note book rules =
       few = rules.few;
       state = rules.state;
       waits = rules.waits;
+      ordered = rules.ordered;
+      soft = rules.soft;
       holds = rules.holds;
       ascending = numbered.0;
       below = numbered.1;
@@ -117,6 +126,8 @@ later_rules number now book rules = record {
   few = rules.few;
   state = rules.state;
   waits = rules.waits;
+  ordered = rules.ordered;
+  soft = rules.soft;
   holds = rules.holds;
   ascending = rules.ascending;
   below = below_more number (map number_of book.tickets) rules.below;
@@ -183,7 +194,7 @@ asker_busy next book ticket rules among lies =
     (All-contains (λ (t : Ticket). is_open_of ticket.command t ≡ false) book.tickets ticket
     (none_counted (is_open_of ticket.command) book.tickets (eqb-true (count_by (is_open_of ticket.command) book.tickets) 0 none)) among)
     (and_from (is_open ticket) (ticket.command == ticket.command) lies (eq-eqb ticket.command ticket.command refl))) in
-    rw (or_left (is_live ticket.command book) (is_waiting ticket.command book) live, busy) refl
+    rw (or_left (is_live ticket.command book) (list_any (is_waiter ticket.command) book.waiting) live, busy) refl
 
 -- who is at the front of the queue waits for a reason
 full : (n : ℕ) → n ≤ 64 → nat_lt n 64 ≡ false → n ≡ 64
@@ -236,6 +247,8 @@ idle_rules next book idle apart sums = record {
   few = subst (λ (live : List ℕ). length live ≤ 64) (sym idle.live) (omega arith);
   state = ap (λ (o : Option ℕ). is_none o) idle.state ∙ sym (ap (λ (live : List ℕ). is_nobody live) idle.live);
   waits = ap (λ (ws : List Waiter). is_held_back book.live book.state ws) idle.waiting;
+  ordered = ap are_ascending idle.soft;
+  soft = subst (λ (cs : List ℕ). All (IsCommandOf book) cs) (sym idle.soft) (All-nil (IsCommandOf book));
   holds = subst (λ (hs : List Hold). AllPairs IsOtherHold hs) (sym idle.holds) (none_paired IsOtherHold);
   ascending = subst (λ (ts : List Ticket). AllPairs ◌<◌ (map number_of ts)) (sym idle.tickets) (none_paired ◌<◌);
   below = subst (λ (ts : List Ticket). All (λ (n : ℕ). n < next) (map number_of ts)) (sym idle.tickets) (All-nil (λ (n : ℕ). n < next));
@@ -249,7 +262,7 @@ pub opened_rules : (opening : Opening) (history : List Entry) → IsOpening open
 opened_rules opening history right =
     history_rules (opened opening) history
     (idle_rules (next_number (opened opening)) (recovered opening)
-    (record { live = refl; state = refl; waiting = refl; holds = refl; tickets = refl }) right.apart right.sums)
+    (record { live = refl; state = refl; waiting = refl; soft = refl; holds = refl; tickets = refl }) right.apart right.sums)
 
 -- an opening that finds nothing is right
 pub nothing_found : IsOpening (record { rows = []; version1 = []; lost = []; strays = [] })

@@ -11,9 +11,9 @@ use Rattle.mat_model.specs.declared.entries.Entry.{Entry}
 use Rattle.mat_model.specs.declared.entries.Event.{Event}
 use Rattle.mat_model.specs.declared.limits.Limits.{Limits}
 use Rattle.mat_model.specs.declared.requests.Asked.{Asked}
-use Rattle.mat_model.specs.Gate.{Admitted, Served, admit, admits, admits_front, admitted, depart, departed, enter, is_live, is_other_waiter, is_waiting, one_more}
+use Rattle.mat_model.specs.Gate.{Admitted, Gate, Served, admit, admits_front, admitted, depart, departed, gate_of, is_other_waiter, one_more}
 use Rattle.mat_model.specs.History.{IsEach, Point, after, after_all, request_context, next_number}
-use Rattle.mat_model.specs.Requests.{RequestContext, at_moment, serve, serve_now}
+use Rattle.mat_model.specs.Requests.{RequestContext, at_moment, enter, serve, serve_now}
 use Rattle.mat_model.specs.Room.{HasRoom, full_event, full_served, waits_past}
 use Rattle.model_laws.proofs.HistoryLemmas.{after_event}
 use Rattle.model_laws.proofs.ListTests.{filter_le}
@@ -24,26 +24,21 @@ abbrev pub IsShort : Book → Type 0
 IsShort book = length book.waiting ≤ 64
 
 -- no more wait where some are admitted, and where one goes
-admitted_fewer : (waiters : List Waiter) (book : Book) → length (admit waiters book).book.waiting ≤ length waiters
-admitted_fewer [] book = omega arith
-admitted_fewer (waiter ∷ waiters) book =
-    let more : length (admit waiters (admitted waiter book)).book.waiting ≤ length waiters = admitted_fewer waiters (admitted waiter book) in
-    elim (admits_front waiter book) as
-    (λ b. length (cond {A = Admitted} b (one_more (admit waiters (admitted waiter book)))
-    (record { count = 0; book = record book { waiting = waiter ∷ waiters } })).book.waiting ≤ length (waiter ∷ waiters))
+admitted_fewer : (waiters : List Waiter) (gate : Gate) → length (admit waiters gate).gate.waiting ≤ length waiters
+admitted_fewer [] gate = omega arith
+admitted_fewer (waiter ∷ waiters) gate =
+    let more : length (admit waiters (admitted waiter gate)).gate.waiting ≤ length waiters = admitted_fewer waiters (admitted waiter gate) in
+    elim (admits_front waiter gate) as
+    (λ b. length (cond {A = Admitted} b (one_more (admit waiters (admitted waiter gate)))
+    (record { count = 0; gate = record gate { waiting = waiter ∷ waiters } })).gate.waiting ≤ length (waiter ∷ waiters))
     [ true ↦ omega (arith, more) | false ↦ omega arith ]
 
-departed_fewer : (command : ℕ) (book : Book) → length (depart command book).book.waiting ≤ length book.waiting
-departed_fewer command book =
-    let fewer : length (filter (is_other_waiter command) book.waiting) ≤ length book.waiting = filter_le (is_other_waiter command) book.waiting in
-    let less : length (depart command book).book.waiting ≤ length (filter (is_other_waiter command) book.waiting) =
-    admitted_fewer (departed command book).waiting (departed command book) in
+departed_fewer : (command : ℕ) (gate : Gate) → length (depart command gate).gate.waiting ≤ length gate.waiting
+departed_fewer command gate =
+    let fewer : length (filter (is_other_waiter command) gate.waiting) ≤ length gate.waiting = filter_le (is_other_waiter command) gate.waiting in
+    let less : length (depart command gate).gate.waiting ≤ length (filter (is_other_waiter command) gate.waiting) =
+    admitted_fewer (departed command gate).waiting (departed command gate) in
     omega (arith, fewer, less)
-
--- the reply to a command that comes to wait is its place
-queued_place : (command state : ℕ) (book : Book) → is_live command book || is_waiting command book ≡ false → admits state book ≡ false →
-    (enter command state book).reply ≡ reply.Queued (length book.waiting + 1)
-queued_place command state book new may = rw (new, may) refl
 
 -- a request keeps the queue short where it isn't answered that a command waits past the last place
 serve_short : (number : ℕ) (context : RequestContext) (request : Asked) (book : Book) → IsShort book → waits_past (serve_now number context request book).reply ≡ false →
@@ -51,15 +46,15 @@ serve_short : (number : ℕ) (context : RequestContext) (request : Asked) (book 
 serve_short number context request book short within =
     asked_by IsShort number context request book (record {
       same = short;
-      enters = λ command state is new may. short;
-      queues = λ command state is new may.
-          let asks : waits_past (enter command state book).reply ≡ false =
+      enters = λ command state soft refuse is new may. short;
+      takes = λ command state soft refuse is new may. short;
+      queues = λ command state soft refuse is new may told.
+          let asks : waits_past (enter number command state soft refuse book).reply ≡ false =
           subst (λ (r : Asked). waits_past (serve_now number context r book).reply ≡ false) is within in
-          let free : nat_lt 64 (length book.waiting + 1) ≡ false =
-          sym (ap waits_past (queued_place command state book new may)) ∙ asks in
+          let free : nat_lt 64 (length book.waiting + 1) ≡ false = sym (ap waits_past told) ∙ asks in
           let few : length book.waiting + 1 ≤ 64 = ltb-false 64 (length book.waiting + 1) free in
           subst (λ (n : ℕ). n ≤ 64) (sym (length-append book.waiting (record { command = command; state = state } ∷ []))) few;
-      leaves = λ command is none. let fewer : length (depart command book).book.waiting ≤ length book.waiting = departed_fewer command book in
+      leaves = λ command is none. let fewer : length (depart command (gate_of book)).gate.waiting ≤ length book.waiting = departed_fewer command (gate_of book) in
           omega (arith, short, fewer);
       puts = λ command path tree is. short;
       uses = λ at command path. short;

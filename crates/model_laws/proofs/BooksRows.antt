@@ -52,8 +52,9 @@ put_summed new rows summed sums =
 pub asked_summed : (number : ℕ) (request : Asked) (book : Book) → All IsSummed book.rows → Changes (λ (b : Book). All IsSummed b.rows) number request book
 asked_summed number request book sums = record {
   same = sums;
-  enters = λ command state is new may. sums;
-  queues = λ command state is new may. sums;
+  enters = λ command state soft refuse is new may. sums;
+  takes = λ command state soft refuse is new may. sums;
+  queues = λ command state soft refuse is new may told. sums;
   leaves = λ command is none. sums;
   puts = λ command path tree is.
       put_summed (new_row number book.now path tree) (filter (is_clear_of path) book.rows) refl (All-filter (is_clear_of path) IsSummed book.rows sums);

@@ -20,8 +20,8 @@ use Rattle.mat_model.specs.declared.book.Waiter.{Waiter}
 use Rattle.mat_model.specs.declared.requests.Asked.{Asked}
 use Rattle.mat_model.specs.Books.{IsAsking, IsOtherHold, number_of}
 use Rattle.mat_model.specs.Declarations.{new_row}
-use Rattle.mat_model.specs.Gate.{Admitted, admit, admits_front, admitted, depart, departed, is_command, is_other, one_more}
-use Rattle.mat_model.specs.Requests.{is_hold_of_other, is_open_of}
+use Rattle.mat_model.specs.Gate.{Admitted, Gate, admit, admits_front, admitted, depart, departed, gate_of, is_command, is_other, one_more}
+use Rattle.mat_model.specs.Requests.{is_hold_beside, is_hold_of_other, is_open_among, is_open_of, preempted_ticket}
 use Rattle.mat_model.specs.Rows.{is_clear_of, overlaps_row, put_row}
 use Rattle.mat_model.specs.Tickets.{answered_by, answered_by_any, is_hold, is_lost, is_open, left_ticket, waits_for, waits_for_any, with_answer, with_hold}
 use Rattle.model_laws.proofs.BooksLists.{all-mapped, all_each, any_contains, contains_any, none_counted, none_pass}
@@ -54,8 +54,9 @@ pub asked_holds : (number : ℕ) (request : Asked) (book : Book) → AllPairs Is
     Changes (λ (b : Book). AllPairs IsOtherHold b.holds) number request book
 asked_holds number request book once = record {
   same = once;
-  enters = λ command state is new may. once;
-  queues = λ command state is new may. once;
+  enters = λ command state soft refuse is new may. once;
+  takes = λ command state soft refuse is new may. AllPairs-filter IsOtherHold (is_hold_beside book.live) book.holds once;
+  queues = λ command state soft refuse is new may told. once;
   leaves = λ command is none. AllPairs-filter IsOtherHold (is_hold_of_other command) book.holds once;
   puts = λ command path tree is. held_once command path book.holds once;
   uses = λ at command path. held_once command path book.holds once;
@@ -84,6 +85,12 @@ pub failed_cases : (Q : Ticket → Type 0) (rows : List Row) (number : ℕ) (giv
     (waits_for_any rows ticket ≡ false → Q ticket) → Q (answered_by_any rows number given ticket)
 failed_cases Q rows number given ticket = answer_cases Q (waits_for_any rows ticket) number given ticket
 
+pub preempted_cases : (Q : Ticket → Type 0) (number command : ℕ) (commands : List ℕ) (ticket : Ticket) →
+    Q (with_answer number (answer.Preempted command) ticket) → (is_open_among commands ticket ≡ false → Q ticket) →
+    Q (preempted_ticket number command commands ticket)
+preempted_cases Q number command commands ticket =
+    answer_cases Q (is_open_among commands ticket) number (answer.Preempted command) ticket
+
 -- the numbers of tickets, below one and in strict order
 abbrev pub AreNumbered : ℕ → List Ticket → Type 0
 AreNumbered next tickets = AllPairs ◌<◌ (map number_of tickets) × All (λ (n : ℕ). n < next) (map number_of tickets)
@@ -111,6 +118,11 @@ failed_number : (rows : List Row) (number : ℕ) (given : Answer) (ticket : Tick
 failed_number rows number given ticket =
     failed_cases (λ (t : Ticket). t.number ≡ ticket.number) rows number given ticket refl (λ stays. refl)
 
+-- a ticket keeps its number where its command is preempted
+preempted_number : (number command : ℕ) (commands : List ℕ) (ticket : Ticket) → (preempted_ticket number command commands ticket).number ≡ ticket.number
+preempted_number number command commands ticket =
+    preempted_cases (λ (t : Ticket). t.number ≡ ticket.number) number command commands ticket refl (λ stays. refl)
+
 -- numbers below one are below the next one
 pub below_more : (next : ℕ) (numbers : List ℕ) → All (λ (n : ℕ). n < next) numbers → All (λ (n : ℕ). n < next + 1) numbers
 below_more next numbers below =
@@ -132,8 +144,10 @@ pub asked_numbered : (next : ℕ) (request : Asked) (book : Book) → AreNumbere
 asked_numbered next request book numbered =
     let more : AreNumbered (next + 1) book.tickets = (numbered.0, below_more next (map number_of book.tickets) numbered.1) in record {
       same = more;
-      enters = λ command state is new may. more;
-      queues = λ command state is new may. more;
+      enters = λ command state soft refuse is new may. more;
+      takes = λ command state soft refuse is new may.
+          still_numbered (next + 1) (preempted_ticket next command book.live) (preempted_number next command book.live) book.tickets more;
+      queues = λ command state soft refuse is new may told. more;
       leaves = λ command is none. more;
       puts = λ command path tree is.
           let removed = filter (overlaps_row path) book.rows in
@@ -179,20 +193,20 @@ more_live command other live is =
     list_any-append (is_command command) live (other ∷ [])
     ∙ ap (λ (b : Bool). b || list_any (is_command command) (other ∷ [])) is
 
-admitted_live : (command : ℕ) (waiters : List Waiter) (book : Book) → list_any (is_command command) book.live ≡ true →
-    list_any (is_command command) (admit waiters book).book.live ≡ true
-admitted_live command [] book is = is
-admitted_live command (waiter ∷ waiters) book is =
-    elim (admits_front waiter book) as
-    (λ b. list_any (is_command command) (cond {A = Admitted} b (one_more (admit waiters (admitted waiter book)))
-    (record { count = 0; book = record book { waiting = waiter ∷ waiters } })).book.live ≡ true) [
-      | true ↦ admitted_live command waiters (admitted waiter book) (more_live command waiter.command book.live is)
+admitted_live : (command : ℕ) (waiters : List Waiter) (gate : Gate) → list_any (is_command command) gate.live ≡ true →
+    list_any (is_command command) (admit waiters gate).gate.live ≡ true
+admitted_live command [] gate is = is
+admitted_live command (waiter ∷ waiters) gate is =
+    elim (admits_front waiter gate) as
+    (λ b. list_any (is_command command) (cond {A = Admitted} b (one_more (admit waiters (admitted waiter gate)))
+    (record { count = 0; gate = record gate { waiting = waiter ∷ waiters } })).gate.live ≡ true) [
+      | true ↦ admitted_live command waiters (admitted waiter gate) (more_live command waiter.command gate.live is)
       | false ↦ is
     ]
 
 -- a ticket whose command stays live where another one goes
 stays_live : (command : ℕ) (book : Book) (ticket : Ticket) → is_open_of command ticket ≡ false → IsAsking book.live ticket →
-    IsAsking (depart command book).book.live ticket
+    IsAsking (depart command (gate_of book)).gate.live ticket
 stays_live command book ticket off asks lies =
     let one = any_contains (is_command ticket.command) book.live (asks lies) in
     let other : is_other command one.0 ≡ true =
@@ -203,7 +217,7 @@ stays_live command book ticket off asks lies =
           (and_from (is_open ticket) (ticket.command == command) lies (eq-eqb ticket.command command same)))
       | false ↦ λ stays. refl
     ] refl in
-    admitted_live ticket.command (departed command book).waiting (departed command book)
+    admitted_live ticket.command (departed command (gate_of book)).waiting (departed command (gate_of book))
     (contains_any (is_command ticket.command) (filter (is_other command) book.live) one.0
     (contains_filter (is_other command) book.live one.0 other one.1) one.2)
 
@@ -212,13 +226,18 @@ pub asked_asking : (number : ℕ) (request : Asked) (book : Book) → All (IsAsk
     Changes (λ (b : Book). All (IsAsking b.live) b.tickets) number request book
 asked_asking number request book asking = record {
   same = asking;
-  enters = λ command state is new may.
+  enters = λ command state soft refuse is new may.
       All-weaker (IsAsking book.live) (IsAsking (book.live ++ command ∷ []))
       (λ ticket asks lies. more_live ticket.command command book.live (asks lies)) book.tickets asking;
-  queues = λ command state is new may. asking;
+  takes = λ command state soft refuse is new may.
+      all-mapped (IsAsking book.live) (IsAsking (command ∷ [])) (preempted_ticket number command book.live)
+      (λ ticket asks. preempted_cases (IsAsking (command ∷ [])) number command book.live ticket (λ lies. absurd cc)
+      (λ stays lies. absurd (both_ways (is_open_among book.live ticket) stays
+      (and_from (is_open ticket) (list_any (is_command ticket.command) book.live) lies (asks lies))))) book.tickets asking;
+  queues = λ command state soft refuse is new may told. asking;
   leaves = λ command is none.
       let others = none_counted (is_open_of command) book.tickets (eqb-true (count_by (is_open_of command) book.tickets) 0 none) in
-      all_each (IsAsking (depart command book).book.live) book.tickets
+      all_each (IsAsking (depart command (gate_of book)).gate.live) book.tickets
       (λ ticket among. stays_live command book ticket
       (All-contains (λ (t : Ticket). is_open_of command t ≡ false) book.tickets ticket others among)
       (All-contains (IsAsking book.live) book.tickets ticket asking among));

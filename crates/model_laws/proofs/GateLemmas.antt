@@ -11,7 +11,7 @@ use Rattle.mat_model.specs.declared.entries.Entry.{Entry}
 use Rattle.mat_model.specs.declared.entries.Outcome.{Outcome}
 use Rattle.mat_model.specs.declared.entries.Task.{Task}
 use Rattle.mat_model.specs.declared.requests.Asked.{Asked}
-use Rattle.mat_model.specs.Gate.{Admitted, admit, admits_front, admitted, departed, is_nobody, is_other, is_state, one_more, state_of}
+use Rattle.mat_model.specs.Gate.{Admitted, admit, admits_front, admitted, departed, is_nobody, is_other, is_state, one_more, state_of, Gate, gate_of}
 use Rattle.mat_model.specs.Requests.{RequestContext, at_moment, serve}
 use Rattle.mat_model.specs.Work.{finish}
 use Rattle.mat_model.specs.History.{Point, after, after_all, request_context, next_number}
@@ -42,24 +42,28 @@ nobody_else p live state fits =
     was_somebody [] command left is = absurd cc
     was_somebody (other ∷ all) command left is = refl
 
+-- at most 64 commands of a gate are live, and there is no state exactly where nobody is
+abbrev IsGatedAt : Gate → Type 0
+IsGatedAt gate = (length gate.live ≤ 64) × (is_none gate.state ≡ is_nobody gate.live)
+
 -- who goes leaves the gate sound
-departed_gated : (command : ℕ) (book : Book) → IsGated book → IsGated (departed command book)
-departed_gated command book gated =
-    let fewer : length (filter (is_other command) book.live) ≤ length book.live = filter_le (is_other command) book.live in
-    let few : length book.live ≤ 64 = gated.0 in
-    (omega (arith, fewer, few), nobody_else (is_other command) book.live book.state gated.1)
+departed_gated : (command : ℕ) (gate : Gate) → IsGatedAt gate → IsGatedAt (departed command gate)
+departed_gated command gate gated =
+    let fewer : length (filter (is_other command) gate.live) ≤ length gate.live = filter_le (is_other command) gate.live in
+    let few : length gate.live ≤ 64 = gated.0 in
+    (omega (arith, fewer, few), nobody_else (is_other command) gate.live gate.state gated.1)
 
 -- and so do those who are admitted
-admit_gated : (waiters : List Waiter) (book : Book) → IsGated book → IsGated (admit waiters book).book
-admit_gated [] book gated = gated
-admit_gated (waiter ∷ waiters) book gated =
-    elim (admits_front waiter book) as
-    (λ b. admits_front waiter book ≡ b →
-    IsGated (cond {A = Admitted} b (one_more (admit waiters (admitted waiter book)))
-    (record { count = 0; book = record book { waiting = waiter ∷ waiters } })).book) [
-      | true ↦ λ may. admit_gated waiters (admitted waiter book) (
-        one_more_live book.live waiter.command (and_parts (nat_lt (length book.live) 64) (is_state waiter.state book.state) may).0,
-        somebody book.live waiter.command,
+admit_gated : (waiters : List Waiter) (gate : Gate) → IsGatedAt gate → IsGatedAt (admit waiters gate).gate
+admit_gated [] gate gated = gated
+admit_gated (waiter ∷ waiters) gate gated =
+    elim (admits_front waiter gate) as
+    (λ b. admits_front waiter gate ≡ b →
+    IsGatedAt (cond {A = Admitted} b (one_more (admit waiters (admitted waiter gate)))
+    (record { count = 0; gate = record gate { waiting = waiter ∷ waiters } })).gate) [
+      | true ↦ λ may. admit_gated waiters (admitted waiter gate) (
+        one_more_live gate.live waiter.command (and_parts (nat_lt (length gate.live) 64) (is_state waiter.state gate.state) may).0,
+        somebody gate.live waiter.command,
       )
       | false ↦ λ may. gated
     ] refl
@@ -68,14 +72,16 @@ admit_gated (waiter ∷ waiters) book gated =
 asked_gated : (number : ℕ) (request : Asked) (book : Book) → IsGated book → Changes IsGated number request book
 asked_gated number request book gated = record {
   same = gated;
-  enters = λ command state is new may. (
+  enters = λ command state soft refuse is new may. (
     one_more_live book.live command
         (and_parts (length book.waiting == 0) (nat_lt (length book.live) 64)
         (and_parts ((length book.waiting == 0) && nat_lt (length book.live) 64) (is_state state book.state) may).0).1,
     somebody book.live command,
   );
-  queues = λ command state is new may. gated;
-  leaves = λ command is none. admit_gated (departed command book).waiting (departed command book) (departed_gated command book gated);
+  takes = λ command state soft refuse is new may. (omega arith, refl);
+  queues = λ command state soft refuse is new may told. gated;
+  leaves = λ command is none.
+      admit_gated (departed command (gate_of book)).waiting (departed command (gate_of book)) (departed_gated command (gate_of book) gated);
   puts = λ command path tree is. gated;
   uses = λ at command path. gated;
   asks = λ row command path live over lies. gated;

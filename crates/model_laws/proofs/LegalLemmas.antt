@@ -48,7 +48,7 @@ pub serve-clock : (number moment : ℕ) (context : RequestContext) (request : As
 serve-clock number moment context request book =
     asked_by (KeepsClock (at_moment moment book)) number context request (at_moment moment book)
     (asked_beside (KeepsClock (at_moment moment book)) number request (at_moment moment book)
-    (λ state live waiting rows holds tickets. record { first = refl; now = refl }))
+    (λ gate rows holds tickets. record { first = refl; now = refl }))
 
 -- the end of a job leaves a book's first number and its moment
 pub finish-clock : (number : ℕ) (begun : Task) (out : Outcome) (how : Recorded) (book : Book) → KeepsClock book (finish number begun out how book).book

@@ -20,6 +20,7 @@ pub mod Idle
 pub mod BooksLists
 pub mod BooksRows
 pub mod BooksGate
+pub mod BooksSoft
 pub mod BooksTickets
 pub mod BooksCovered
 pub mod BooksKept

@@ -1,11 +1,12 @@
 -- What a request, the begin and the end of a job leave of a book, case by case, and of its rows and its tickets alone.
-use Rattle.std.proofs.Common.{◌≡◌, ℕ, ◌==◌, Bool, true, false, not, ◌||◌, List, [], ◌∷◌, ◌++◌, Option, Some, None, cond, refl, sym, subst, map, find, count_by}
+use Rattle.std.proofs.Common.{◌≡◌, ℕ, ◌==◌, Bool, true, false, not, ◌||◌, List, [], ◌∷◌, ◌++◌, Option, Some, None, cond, refl, sym, subst, map, find, count_by, ap₂, length, ◌+◌}
 use Rattle.std.specs.List.{list_all, filter}
 use Rattle.mat_tree.specs.declared.flat.Flat.{Flat}
 use Rattle.mat_tree.specs.Trees.{is_placed, same_sum}
 use Rattle.mat_model.specs.declared.answers.Answer.{Answer}
 use Rattle.mat_model.specs.declared.answers.Answer.TheVariants as answer
 use Rattle.mat_model.specs.declared.answers.Recorded.{Recorded}
+use Rattle.mat_model.specs.declared.answers.Reply.TheVariants as reply
 use Rattle.mat_model.specs.declared.book.Book.{Book}
 use Rattle.mat_model.specs.declared.book.Hold.{Hold}
 use Rattle.mat_model.specs.declared.book.Row.{Row}
@@ -20,9 +21,9 @@ use Rattle.mat_model.specs.declared.requests.Asked.TheVariants as asked
 use Rattle.mat_model.specs.declared.requests.CleanMode.TheVariants as mode
 use Rattle.mat_model.specs.Cleaning.{is_not_stale, is_stale}
 use Rattle.mat_model.specs.Declarations.{copy_tree, declare_row, declared_at, is_equal_row, new_row, replace_rows, written_tree}
-use Rattle.mat_model.specs.Gate.{Admitted, Served, admit, admits, admits_front, admitted, depart, departed, is_live, is_waiting, one_more}
+use Rattle.mat_model.specs.Gate.{Gate, Passed, Served, admits, come, depart, gate_of, is_known, is_live, may_take, other_state, pass, take_over, turn_away, wait, with_gate}
 use Rattle.model_laws.specs.Laws.{declares, disturbs}
-use Rattle.mat_model.specs.Requests.{RequestContext, at_moment, ensure_row, is_hold_of_other, is_open_of, match_row, serve, serve_now}
+use Rattle.mat_model.specs.Requests.{RequestContext, at_moment, ensure_row, is_hold_of_other, is_open_of, match_row, passed, preempted, preempted_ticket, serve, serve_now}
 use Rattle.mat_model.specs.Rows.{cover, is_at_path, is_clear_of, overlaps_row, put_row, standing_row, used}
 use Rattle.mat_model.specs.Tickets.{answered_by, answered_by_any, left_ticket, with_hold, without_rows}
 use Rattle.mat_model.specs.Work.{end_make, finish, is_declared, make_ended, with_answers}
@@ -33,10 +34,6 @@ pub either_book : (P : Book → Type 0) (b : Bool) (first second : Served) → (
 either_book P true first second one other = one refl
 either_book P false first second one other = other refl
 
--- the gate of one book in another
-abbrev pub with_gate : Book → Book → Book
-with_gate gate book = record book { live = gate.live; state = gate.state; waiting = gate.waiting }
-
 -- a row at a path is used, and a command holds a path
 abbrev pub used_at : List (List ℕ) → ℕ → List (List ℕ) → Book → Book
 used_at at command path book = record book { rows = used at book.now book.rows; holds = with_hold command path book.holds }
@@ -46,21 +43,28 @@ abbrev pub with_ticket : ℕ → ℕ → List (List ℕ) → Book → Book
 with_ticket number command path book =
     record book { tickets = book.tickets ++ record { number = number; command = command; asked = path; answered = None } ∷ [] }
 
--- a property of the book after a request, case by case: the book is left alone, a new command is live or waits, a command goes, a row is put in the
+-- a property of the book after a request, case by case: the book is left alone, a new command is live or waits or takes the place of those
+-- that are live, a command goes, a row is put in the
 -- place of those that overlap its path, a row is used, a ticket comes to a covering row that doesn't stand and is used, and rows that pass a test
 -- are removed
 pub record Changes (P : Book → Type 0) (number : ℕ) (request : Asked) (book : Book) : Type 0 where
   -- it is true of the book as it was
   pub same : P book
   -- it is true once a command that is new is live
-  pub enters : (command state : ℕ) → request ≡ asked.Enter command state → is_live command book || is_waiting command book ≡ false →
-      admits state book ≡ true → P (record book { live = book.live ++ command ∷ []; state = Some state })
-  -- it is true once a command that is new waits
-  pub queues : (command state : ℕ) → request ≡ asked.Enter command state → is_live command book || is_waiting command book ≡ false →
-      admits state book ≡ false → P (record book { waiting = book.waiting ++ record { command = command; state = state } ∷ [] })
+  pub enters : (command state : ℕ) (soft refuse : Bool) → request ≡ asked.Enter command state soft refuse →
+      is_known command (gate_of book) ≡ false → admits state (gate_of book) ≡ true → P (with_gate (come command state soft (gate_of book)) book)
+  -- it is true once a command that is new has taken the place of those that were live
+  pub takes : (command state : ℕ) (soft refuse : Bool) → request ≡ asked.Enter command state soft refuse →
+      is_known command (gate_of book) ≡ false → may_take state (gate_of book) ≡ true →
+      P (with_gate (take_over command state soft (gate_of book)) (preempted number command book.live book))
+  -- it is true once a command that is new waits, which is then its reply
+  pub queues : (command state : ℕ) (soft refuse : Bool) → request ≡ asked.Enter command state soft refuse →
+      is_known command (gate_of book) ≡ false → admits state (gate_of book) ≡ false →
+      (pass command state soft refuse (gate_of book)).reply ≡ reply.Queued (length book.waiting + 1) →
+      P (with_gate (wait command state soft (gate_of book)) book)
   -- it is true once a command without open tickets is gone, and its holds with it
   pub leaves : (command : ℕ) → request ≡ asked.Leave command → (count_by (is_open_of command) book.tickets == 0) ≡ true →
-      P (record (with_gate (depart command book).book book) { holds = filter (is_hold_of_other command) book.holds })
+      P (with_gate (depart command (gate_of book)).gate (record book { holds = filter (is_hold_of_other command) book.holds }))
   -- it is true once a row is put in the place of those that overlap its path
   pub puts : (command : ℕ) (path : List (List ℕ)) (tree : List Flat) → declares request ≡ Some path →
       P (replace_rows number command path (new_row number book.now path tree) book).book
@@ -73,18 +77,10 @@ pub record Changes (P : Book → Type 0) (number : ℕ) (request : Asked) (book 
   pub removes : (gone left : Row → Bool) → ((row : Row) → left row ≡ not (gone row)) → ((row : Row) → gone row ≡ true → disturbs request row ≡ true) →
       P (without_rows number (filter gone book.rows) (filter left book.rows) book)
 
--- who is admitted changes the gate alone
-pub admitted_gate : (waiters : List Waiter) (book : Book) → (admit waiters book).book ≡ with_gate (admit waiters book).book book
-admitted_gate [] book = refl
-admitted_gate (waiter ∷ waiters) book =
-    elim (admits_front waiter book) as
-    (λ b. (cond {A = Admitted} b (one_more (admit waiters (admitted waiter book)))
-    (record { count = 0; book = record book { waiting = waiter ∷ waiters } })).book
-    ≡ with_gate (cond {A = Admitted} b (one_more (admit waiters (admitted waiter book)))
-    (record { count = 0; book = record book { waiting = waiter ∷ waiters } })).book book) [
-      | true ↦ admitted_gate waiters (admitted waiter book)
-      | false ↦ refl
-    ]
+-- a property of what a command that comes is answered with, and of the gate then, where it may be one of two
+either_passed : (P : Passed → Type 0) (b : Bool) (first second : Passed) → (b ≡ true → P first) → (b ≡ false → P second) → P (cond b first second)
+either_passed P true first second one other = one refl
+either_passed P false first second one other = other refl
 
 declared_by : (P : Book → Type 0) (number : ℕ) (request : Asked) (command : ℕ) (path : List (List ℕ)) (tree : List Flat) (book : Book) →
     Changes P number request book → declares request ≡ Some path → (o : Option Row) → P (declare_row number command path tree book o).book
@@ -94,14 +90,31 @@ declared_by P number request command path tree book changes is (Some row) = chan
 -- what is true in each case is true after a request
 pub asked_by : (P : Book → Type 0) (number : ℕ) (context : RequestContext) (request : Asked) (book : Book) → Changes P number request book →
     P (serve_now number context request book).book
-asked_by P number context (asked.Enter command state) book changes =
-    either_book P (is_live command book || is_waiting command book) _ _ (λ known. changes.same)
-    (λ new. either_book P (admits state book) _ _ (changes.enters command state refl new) (changes.queues command state refl new))
+asked_by P number context (asked.Enter command state soft refuse) book changes =
+    either_passed Q (is_known command gate) _ _ (λ known. changes.same)
+    (λ new. either_passed Q (admits state gate) _ _ (changes.enters command state soft refuse refl new)
+    (λ shut. either_passed Q (may_take state gate) _ _ (changes.takes command state soft refuse refl new)
+    (λ stays. away new shut stays refuse (other_state state book.state) refl refl)))
+  where
+    gate : Gate
+    gate = gate_of book
+
+    Q : Passed → Type 0
+    Q through = P (passed number command through book).book
+
+    turned : is_known command gate ≡ false → admits state gate ≡ false → may_take state gate ≡ false → (r : Bool) (other : Option ℕ) → refuse ≡ r →
+        other_state state book.state ≡ other → (pass command state soft refuse gate).reply ≡ (turn_away command state soft r other gate).reply
+    turned new shut stays r other same at = rw (new, shut, stays) (ap₂ (λ (b : Bool) (o : Option ℕ). (turn_away command state soft b o gate).reply) same at)
+
+    away : is_known command gate ≡ false → admits state gate ≡ false → may_take state gate ≡ false → (r : Bool) (other : Option ℕ) → refuse ≡ r →
+        other_state state book.state ≡ other → Q (turn_away command state soft r other gate)
+    away new shut stays true (Some live) same at = changes.same
+    away new shut stays true None same at = changes.queues command state soft refuse refl new shut (turned new shut stays true None same at)
+    away new shut stays false other same at = changes.queues command state soft refuse refl new shut (turned new shut stays false other same at)
 asked_by P number context (asked.Leave command) book changes =
-    either_book P (is_live command book || is_waiting command book) _ _
+    either_book P (is_known command (gate_of book)) _ _
     (λ known. either_book P (count_by (is_open_of command) book.tickets == 0) _ _
-    (λ none. subst (λ (b : Book). P (record b { holds = filter (is_hold_of_other command) book.holds }))
-    (sym (admitted_gate (departed command book).waiting (departed command book))) (changes.leaves command refl none))
+    (λ none. changes.leaves command refl none)
     (λ busy. changes.same))
     (λ new. changes.same)
 asked_by P number context (asked.Write command path sum) book changes =
@@ -150,18 +163,19 @@ asked_by P number context asked.Flush book changes = changes.same
 
 -- what is true whatever the gate, the rows, the holds and the tickets are is true after a request
 pub asked_beside : (P : Book → Type 0) (number : ℕ) (request : Asked) (book : Book) →
-    ((state : Option ℕ) (live : List ℕ) (waiting : List Waiter) (rows : List Row) (holds : List Hold) (tickets : List Ticket) →
-    P (record book { state = state; live = live; waiting = waiting; rows = rows; holds = holds; tickets = tickets })) →
+    ((gate : Gate) (rows : List Row) (holds : List Hold) (tickets : List Ticket) →
+    P (with_gate gate (record book { rows = rows; holds = holds; tickets = tickets }))) →
     Changes P number request book
 asked_beside P number request book each = record {
-  same = each _ _ _ book.rows book.holds book.tickets;
-  enters = λ command state is new may. each _ _ _ book.rows book.holds book.tickets;
-  queues = λ command state is new may. each _ _ _ book.rows book.holds book.tickets;
-  leaves = λ command is none. each _ _ _ book.rows _ book.tickets;
-  puts = λ command path tree is. each _ _ _ _ _ _;
-  uses = λ at command path. each _ _ _ _ _ book.tickets;
-  asks = λ row command path live over lies. each _ _ _ _ _ _;
-  removes = λ gone left opposite disturbed. each _ _ _ _ _ _;
+  same = each (gate_of book) book.rows book.holds book.tickets;
+  enters = λ command state soft refuse is new may. each (come command state soft (gate_of book)) book.rows book.holds book.tickets;
+  takes = λ command state soft refuse is new may. each (take_over command state soft (gate_of book)) book.rows _ _;
+  queues = λ command state soft refuse is new may told. each (wait command state soft (gate_of book)) book.rows book.holds book.tickets;
+  leaves = λ command is none. each (depart command (gate_of book)).gate book.rows _ book.tickets;
+  puts = λ command path tree is. each (gate_of book) _ _ _;
+  uses = λ at command path. each (gate_of book) _ _ book.tickets;
+  asks = λ row command path live over lies. each (gate_of book) _ _ _;
+  removes = λ gone left opposite disturbed. each (gate_of book) _ book.holds _;
 }
 
 -- a property of the book after the end of a job, or after its begin was refused: the book is left alone, a row comes to stand and the tickets on it
@@ -216,11 +230,15 @@ abbrev pub left_tickets : ℕ → List (List ℕ) → Row → List Row → List 
 left_tickets number path new rows tickets =
     map (left_ticket number (filter (overlaps_row path) rows) (put_row new (filter (is_clear_of path) rows))) tickets
 
--- the rows and the tickets after a request, case by case: both are left alone, a ticket comes to rows that are used, rows are used, a row is put
+-- the rows and the tickets after a request, case by case: both are left alone, open tickets are answered that a command took the place of
+-- theirs, a ticket comes to rows that are used, rows are used, a row is put
 -- in the place of those that overlap its path, and rows that pass a test are removed
-pub record Cases (R : List Row → List Ticket → Type 0) (number : ℕ) (request : Asked) (rows : List Row) (tickets : List Ticket) : Type 0 where
+pub record Cases (R : List Row → List Ticket → Type 0) (number : ℕ) (request : Asked) (live : List ℕ) (rows : List Row) (tickets : List Ticket) : Type 0 where
   -- it is true of the rows and the tickets as they were
   pub same : R rows tickets
+  -- it is true once the open tickets of the live commands are answered that a command took their place
+  pub takes : (command state : ℕ) (soft refuse : Bool) → request ≡ asked.Enter command state soft refuse →
+      R rows (map (preempted_ticket number command live) tickets)
   -- it is true once rows are used and tickets have come
   pub asks : (path : List (List ℕ)) (n : ℕ) (more : List Ticket) → R (used path n rows) (tickets ++ more)
   -- it is true once rows are used
@@ -234,12 +252,13 @@ pub record Cases (R : List Row → List Ticket → Type 0) (number : ℕ) (reque
 
 -- what is true in each case is true of the rows and the tickets after a request
 pub served_by : (R : List Row → List Ticket → Type 0) (number moment : ℕ) (context : RequestContext) (request : Asked) (book : Book) →
-    Cases R number request book.rows book.tickets → Leaves R (serve number moment context request book)
+    Cases R number request book.live book.rows book.tickets → Leaves R (serve number moment context request book)
 served_by R number moment context request book cases =
     asked_by (λ (b : Book). R b.rows b.tickets) number context request (at_moment moment book) (record {
       same = cases.same;
-      enters = λ command state is new may. cases.same;
-      queues = λ command state is new may. cases.same;
+      enters = λ command state soft refuse is new may. cases.same;
+      takes = λ command state soft refuse is new may. cases.takes command state soft refuse is;
+      queues = λ command state soft refuse is new may told. cases.same;
       leaves = λ command is none. cases.same;
       puts = λ command path tree is. cases.puts path (new_row number (at_moment moment book).now path tree) refl is;
       uses = λ at command path. cases.uses at (at_moment moment book).now;

@@ -61,7 +61,7 @@ clear_at at path row is calm =
 
 clear_of : (request : Asked) (path : List (List ℕ)) (row : Row) → declares request ≡ Some path → disturbs request row ≡ false →
     is_clear_of path row ≡ true
-clear_of (asked.Enter command state) path row is calm = absurd cc
+clear_of (asked.Enter command state soft refuse) path row is calm = absurd cc
 clear_of (asked.Leave command) path row is calm = absurd cc
 clear_of (asked.Write command at sum) path row is calm = clear_at at path row is calm
 clear_of (asked.Declare command at tree) path row is calm = clear_at at path row is calm
@@ -79,6 +79,7 @@ pub serve_stands : (number moment : ℕ) (context : RequestContext) (request : A
 serve_stands number moment context request book row among stands calm =
     served_by (λ (rows : List Row) (tickets : List Ticket). StillStands row rows) number moment context request book (record {
       same = still_here row book.rows among stands;
+      takes = λ command state soft refuse is. still_here row book.rows among stands;
       asks = λ path n more. used_still path n row stands book.rows among;
       uses = λ path n. used_still path n row stands book.rows among;
       puts = λ path new at is.
@@ -104,7 +105,7 @@ finish_stands number task out how book row among stands =
 
 -- a row at the same path is disturbed by the same entries
 same_request : (request : Asked) (row next : Row) → next.path ≡ row.path → disturbs request next ≡ disturbs request row
-same_request (asked.Enter command state) row next at = refl
+same_request (asked.Enter command state soft refuse) row next at = refl
 same_request (asked.Leave command) row next at = refl
 same_request (asked.Write command path sum) row next at = ap (λ (p : List (List ℕ)). overlap p path) at
 same_request (asked.Declare command path tree) row next at = ap (λ (p : List (List ℕ)). overlap p path) at

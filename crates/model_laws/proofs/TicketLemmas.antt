@@ -1,4 +1,5 @@
 -- Tickets are kept by a request, by the end of a job and by a history: a ticket that is answered has that answer for good.
+use Rattle.mat_model.specs.Gate.{is_command}
 use Rattle.std.proofs.Common.{◌≡◌, ℕ, zero, suc, Bool, true, false, not, ◌&&◌, List, [], ◌∷◌, ◌++◌, Some, cond, refl, ap, ◌∙◌, map}
 use Rattle.std.specs.List.{list_any, filter, slice_get}
 use Rattle.std.proofs.lemmas.Bool.{and_parts, both_ways}
@@ -14,7 +15,7 @@ use Rattle.mat_model.specs.declared.entries.Task.{Task}
 use Rattle.mat_model.specs.declared.requests.Asked.{Asked}
 use Rattle.mat_model.specs.Rows.{covers, is_clear_of, overlaps_row, put_row}
 use Rattle.mat_model.specs.Tickets.{answered_by, answered_by_any, is_lost, is_open, left_ticket, waits_for, waits_for_any, with_answer}
-use Rattle.mat_model.specs.Requests.{RequestContext, serve}
+use Rattle.mat_model.specs.Requests.{RequestContext, serve, is_open_among, preempted_ticket}
 use Rattle.mat_model.specs.Work.{finish, rows_of_task}
 use Rattle.mat_model.specs.History.{Point, after, after_all, request_context, next_number}
 use Rattle.model_laws.specs.Laws.{AreKept, IsKept}
@@ -43,6 +44,12 @@ kept_answered_any rows number given ticket =
     kept_or (waits_for_any rows ticket) number given ticket
     (λ waits. (and_parts (is_open ticket) (list_any (covers ticket.asked) rows) waits).0)
 
+-- a ticket is kept where its command is preempted
+kept_preempted : (number command : ℕ) (commands : List ℕ) (ticket : Ticket) → IsKept ticket (preempted_ticket number command commands ticket)
+kept_preempted number command commands ticket =
+    kept_or (is_open_among commands ticket) number (answer.Preempted command) ticket
+    (λ among. (and_parts (is_open ticket) (list_any (is_command ticket.command) commands) among).0)
+
 -- tickets are kept where nothing changes, where one comes, and where each is kept
 kept_same : (tickets : List Ticket) → AreKept tickets tickets
 kept_same [] = tt
@@ -61,6 +68,8 @@ pub serve_kept : (number moment : ℕ) (context : RequestContext) (request : Ask
 serve_kept number moment context request book =
     served_by (λ (rows : List Row) (tickets : List Ticket). AreKept book.tickets tickets) number moment context request book (record {
       same = kept_same book.tickets;
+      takes = λ command state soft refuse is.
+          kept_map (preempted_ticket number command book.live) (kept_preempted number command book.live) book.tickets;
       asks = λ path n more. kept_more book.tickets more;
       uses = λ path n. kept_same book.tickets;
       puts = λ path new at is.

@@ -20,7 +20,7 @@ use Rattle.mat_model.specs.declared.requests.Asked.{Asked}
 use Rattle.mat_model.specs.declared.requests.Asked.TheVariants as asked
 use Rattle.mat_model.specs.declared.requests.CleanMode.{CleanMode}
 use Rattle.mat_model.specs.declared.requests.CleanMode.TheVariants as mode
-use Rattle.mat_model.specs.Gate.{Served, is_nobody}
+use Rattle.mat_model.specs.Gate.{Served, is_command, is_nobody}
 use Rattle.mat_model.specs.Tickets.{is_open, with_hold}
 use Rattle.mat_model.specs.Rows.{cover, covers, overlaps_row, put_row}
 
@@ -65,7 +65,7 @@ removes mode.All = true
 
 -- whether a request can end that a row stands: it declares or removes at a path that overlaps the row's, or it cleans
 abbrev pub disturbs : Asked → Row → Bool
-disturbs (asked.Enter command state) row = false
+disturbs (asked.Enter command state soft refuse) row = false
 disturbs (asked.Leave command) row = false
 disturbs (asked.Write command path sum) row = overlaps_row path row
 disturbs (asked.Declare command path tree) row = overlaps_row path row
@@ -79,7 +79,7 @@ disturbs asked.Flush row = false
 
 -- the path that a request declares at
 abbrev pub declares : Asked → Option (List (List ℕ))
-declares (asked.Enter command state) = None
+declares (asked.Enter command state soft refuse) = None
 declares (asked.Leave command) = None
 declares (asked.Write command path sum) = Some path
 declares (asked.Declare command path tree) = Some path
@@ -105,6 +105,16 @@ abbrev pub IsLeftOut : ℕ → List Row → Ticket → Ticket → Type 0
 IsLeftOut number rows ticket other =
     (other.answered ≡ Some (record { at = number; answer = answer.Undeclared }))
     × (list_any (covers ticket.asked) rows ≡ false)
+
+-- a ticket was answered, under a number, that a command took the place of its own: an enter asks so, and the ticket's command was live
+pub record IsPreempted (number : ℕ) (request : Asked) (commands : List ℕ) (ticket other : Ticket) : Type 0 where
+  pub command : ℕ
+  pub state : ℕ
+  pub soft : Bool
+  pub refuse : Bool
+  pub asks : request ≡ asked.Enter command state soft refuse
+  pub live : list_any (is_command ticket.command) commands ≡ true
+  pub answered : other.answered ≡ Some (record { at = number; answer = answer.Preempted command })
 
 -- a ticket was answered, under a number, with the stamp and the sum of a row that stands at a path and covers what it asked for
 pub record IsAnswered (number : ℕ) (path : List (List ℕ)) (stamp : ℕ) (rows : List Row) (ticket other : Ticket) : Type 0 where

@@ -1,4 +1,4 @@
-ghost use Rattle.std.specs.Prelude.{◌≡◌, ◌<◌, ℕ, List, Some, true, false, count_by};
+ghost use Rattle.std.specs.Prelude.{◌≡◌, ◌<◌, ◌⊎◌, ℕ, List, Some, true, false, count_by};
 ghost use Rattle.std.specs.List.{Contains, list_any, slice_get};
 ghost use Rattle.mat_tree.specs.declared.sum.Sum.{Sum};
 ghost use Rattle.mat_model.specs.declared.answers.Recorded.{Recorded};
@@ -14,7 +14,7 @@ ghost use Rattle.mat_model.specs.declared.entries.Task.TheVariants as task;
 ghost use Rattle.mat_model.specs.declared.requests.Asked.{Asked};
 ghost use Rattle.mat_model.specs.Gate.{is_live};
 ghost use Rattle.mat_model.specs.History.{Point, after_all};
-ghost use Rattle.model_laws.specs.Laws.{AreKept, HasDeclared, IsAnswered, IsGated, IsLeftOut, IsReady, StillStands, disturbs, is_disturbed};
+ghost use Rattle.model_laws.specs.Laws.{AreKept, HasDeclared, IsAnswered, IsGated, IsLeftOut, IsPreempted, IsReady, StillStands, disturbs, is_disturbed};
 ghost use Rattle.mat_model.specs.Requests.{RequestContext, ensure, serve};
 ghost use Rattle.mat_model.specs.Tickets.{is_open};
 ghost use Rattle.mat_model.specs.Declarations.{write, written_tree};
@@ -92,12 +92,14 @@ pub fn history_keeps_apart()
         are_apart point.book.rows ≡ true → are_apart (after_all point later).book.rows ≡ true }
 {}
 
-/// A request answers an open ticket only that nothing is declared, and only where no row covers any more what it asked for.
+/// A request answers an open ticket only that nothing is declared, and only where no row covers any more what it asked for; or, where it is an
+/// enter that took the place of the ticket's command, that its command was preempted by that one.
 pub fn serve_answers_truly()
     ensures { (number moment : ℕ) (context : RequestContext) (request : Asked) (book : Book) (k : ℕ) (ticket other : Ticket) →
         slice_get book.tickets k ≡ Some ticket → is_open ticket ≡ true →
         slice_get (serve number moment context request book).book.tickets k ≡ Some other → is_open other ≡ false →
-        IsLeftOut number (serve number moment context request book).book.rows ticket other }
+        IsLeftOut number (serve number moment context request book).book.rows ticket other
+        ⊎ IsPreempted number request book.live ticket other }
 {}
 
 /// The end of a make that made its row answers an open ticket only with the stamp and the sum of the row that it made, which then stands and

@@ -1,6 +1,6 @@
 -- What is written of an item is read as that item.
-use Rattle.std.proofs.Common.{◌≡◌, ℕ, ◌*◌, ◌%◌, ◌≤◌, ◌==◌, ◌&&◌, Bool, true, false, nat_lt, if◌then◌else◌, List, [], ◌∷◌, length, Option, Some, None, refl, sym, ◌∙◌, ap, ap₂, subst, arith}
-use Rattle.std.specs.Prelude.{All, codes}
+use Rattle.std.proofs.Common.{◌≡◌, ℕ, ◌*◌, ◌%◌, ◌^◌, ◌<◌, ◌≤◌, ◌==◌, ◌&&◌, Bool, true, false, nat_lt, if◌then◌else◌, List, [], ◌∷◌, length, Option, Some, None, refl, sym, ◌∙◌, ap, ap₂, subst, arith}
+use Rattle.std.specs.Prelude.{All, codes, decimal}
 use Rattle.std.specs.List.{flat_map, list_all}
 use Rattle.std.specs.Result.{result_ok, result_unwrap_or}
 use Rattle.std.proofs.lemmas.Bool.{and_right, le-ltb, lt-ltb}
@@ -29,15 +29,16 @@ use Rattle.tree_words.specs.Words.{at_kind, node_words, read_from, text_of, tree
 use Rattle.tree_words.proofs.Clear.{clear_nodes, words_of-text_of}
 use Rattle.tree_words.proofs.Laws.{read_tree-tree_text}
 use Rattle.tree_words.proofs.Texts.{IsSome, node_before_some}
+use Rattle.script_lang.specs.declared.flags.Flags.{Flags}
 use Rattle.script_lang.specs.declared.items.Item.{Item}
 use Rattle.script_lang.specs.declared.items.Item.TheVariants as item
 use Rattle.script_lang.specs.declared.items.Line.TheVariants as line
 use Rattle.script_lang.specs.declared.items.Pick.{Pick}
 use Rattle.script_lang.specs.declared.items.Pick.TheVariants as pick
 use Rattle.script_lang.specs.Bounds.{HasBounds, HasRequestBounds}
-use Rattle.script_lang.specs.Items.{a_sum, item_of, placed, with_one, with_three, with_two}
+use Rattle.script_lang.specs.Items.{a_sum, an_enter, enter_of, item_of, placed, with_one, with_three, with_two}
 use Rattle.script_lang.specs.Lines.{is_end, is_skipped, item_line, line_limit, line_of}
-use Rattle.script_lang.specs.Spelled.{bytes_of, device_of, digest_of, is_hex, kind_of, mode_of, pick_of, tree_spelled}
+use Rattle.script_lang.specs.Spelled.{bytes_of, device_of, digest_of, flags_of, is_hex, kind_of, mode_of, pick_of, tree_spelled}
 use Rattle.script_lang.specs.Texts.{device_text, kind_text}
 use Rattle.script_lang.specs.Written.{IsItem, IsRequest, bytes_word, item_text, item_words, mode_text, pick_text, request_words}
 use Rattle.script_lang.proofs.ClearLemmas.{clear_item}
@@ -123,10 +124,22 @@ three_back f o p q a b c first second third =
 asked_back : (o : Option Request) (asked : Request) → o ≡ Some asked → with_one item.Request o ≡ Some (item.Request asked)
 asked_back o asked h = ap (with_one item.Request) h
 
+-- an enter whose last word, if there is one, spells its flags
+enter_back : (command state : ℕ) (word : Option (List ℕ)) (flags : Flags) → command < 2 ^ 32 → state < 2 ^ 64 → flags_of word ≡ Some flags
+    → enter_of (Some (decimal command, decimal state, word)) ≡ Some (an_enter command state flags)
+enter_back command state word flags small fits spelled =
+    three_back an_enter _ _ _ command state flags (command_of-decimal command small) (count_of-decimal state fits) spelled
+
 request_back : (workers : ℕ) (asked : Request) → IsRequest asked → HasRequestBounds asked
     → item_of workers (request_words asked) ≡ Some (item.Request asked)
-request_back workers (request.Enter command state) h fits =
-    asked_back _ _ (two_back request.Enter _ _ command state (command_of-decimal command h.0) (count_of-decimal state h.1))
+request_back workers (request.Enter command state false false) h fits =
+    asked_back _ _ (enter_back command state None (record { soft = false; refuse = false }) h.0 h.1 refl)
+request_back workers (request.Enter command state true false) h fits =
+    asked_back _ _ (enter_back command state (Some (codes "p")) (record { soft = true; refuse = false }) h.0 h.1 refl)
+request_back workers (request.Enter command state false true) h fits =
+    asked_back _ _ (enter_back command state (Some (codes "r")) (record { soft = false; refuse = true }) h.0 h.1 refl)
+request_back workers (request.Enter command state true true) h fits =
+    asked_back _ _ (enter_back command state (Some (codes "pr")) (record { soft = true; refuse = true }) h.0 h.1 refl)
 request_back workers (request.Leave command) h fits = asked_back _ _ (ap (with_one request.Leave) (command_of-decimal command h))
 request_back workers (request.Write command path bytes) h fits =
     asked_back _ _ (three_back request.Write _ _ _ command path bytes (command_of-decimal command h.0.number_fits) (read_back path h.0.names_fit) (bytes_back bytes h.1))
@@ -170,7 +183,7 @@ record IsSpoken (text : List ℕ) : Type 0 where
   not_end : is_end text ≡ false
 
 spoken_request : (asked : Request) → IsSpoken (text_of (request_words asked))
-spoken_request (request.Enter command state) = record { not_skipped = refl; not_end = refl }
+spoken_request (request.Enter command state soft refuse) = record { not_skipped = refl; not_end = refl }
 spoken_request (request.Leave command) = record { not_skipped = refl; not_end = refl }
 spoken_request (request.Write command path bytes) = record { not_skipped = refl; not_end = refl }
 spoken_request (request.Declare command path tree) = record { not_skipped = refl; not_end = refl }
@@ -197,7 +210,7 @@ spoken_item item.Restart = record { not_skipped = refl; not_end = refl }
 
 -- each has a word
 some_request : (asked : Request) → IsSome (request_words asked)
-some_request (request.Enter command state) = record { head = _; tail = _; is = refl }
+some_request (request.Enter command state soft refuse) = record { head = _; tail = _; is = refl }
 some_request (request.Leave command) = record { head = _; tail = _; is = refl }
 some_request (request.Write command path bytes) = record { head = _; tail = _; is = refl }
 some_request (request.Declare command path tree) = record { head = _; tail = _; is = refl }

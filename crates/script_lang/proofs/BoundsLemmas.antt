@@ -15,7 +15,7 @@ use Rattle.script_lang.specs.declared.verbs.Asking.TheVariants as asking
 use Rattle.script_lang.specs.declared.verbs.Doing.{Doing}
 use Rattle.script_lang.specs.declared.verbs.Doing.TheVariants as doing
 use Rattle.script_lang.specs.Bounds.{HasBounds, HasRequestBounds}
-use Rattle.script_lang.specs.Items.{Word, at_of, blob_of, clean_of, copy_of, declare_of, enter_of, ensure_of, fail_of, four_of, has_of, invalidate_of, item_behind, item_of, leave_of, lie_of, match_of, one_of, other_of, placed, request_of, show_of, step_of, stop_of, three_of, two_and_more_of, two_of, with_one, with_three, with_two, write_of}
+use Rattle.script_lang.specs.Items.{Word, an_enter, at_of, blob_of, clean_of, copy_of, declare_of, enter_of, ensure_of, fail_of, four_of, has_of, invalidate_of, item_behind, item_of, leave_of, lie_of, match_of, one_of, other_of, placed, request_of, show_of, step_of, stop_of, three_of, two_and_more_of, two_of, two_or_three_of, with_one, with_three, with_two, write_of}
 use Rattle.script_lang.specs.Spelled.{at_least_one, below, command_of, count_of, number_of, tree_spelled}
 use Rattle.script_lang.specs.Verbs.{asking_of, doing_of}
 
@@ -72,9 +72,9 @@ placed_bound (Some p) (Some ns) path tree is h =
 
 -- ---- requests
 
-enter_bounds : (o : Option (Word × Word)) (r : Request) → enter_of o ≡ Some r → HasRequestBounds r
+enter_bounds : (o : Option (Word × Word × Option Word)) (r : Request) → enter_of o ≡ Some r → HasRequestBounds r
 enter_bounds None r h = absurd cc
-enter_bounds (Some ws) r h = subst HasRequestBounds (parts_of_two request.Enter _ _ r h).4 tt
+enter_bounds (Some ws) r h = subst HasRequestBounds (parts_of_three an_enter _ _ _ r h).6 tt
 
 has_bounds : (o : Option (Word × Word)) (r : Request) → has_of o ≡ Some r → HasRequestBounds r
 has_bounds None r h = absurd cc
@@ -121,7 +121,7 @@ flush_bounds true r h = subst HasRequestBounds (let s : request.Flush ≡ r = cc
 flush_bounds false r h = absurd cc
 
 request_bounds : (asked : Asking) (words : List Word) (r : Request) → request_of asked words ≡ Some r → HasRequestBounds r
-request_bounds asking.Enter words r h = enter_bounds (two_of words) r h
+request_bounds asking.Enter words r h = enter_bounds (two_or_three_of words) r h
 request_bounds asking.Leave words r h = leave_bounds (one_of words) r h
 request_bounds asking.Write words r h = write_bounds (three_of words) r h
 request_bounds asking.Declare words r h = declare_bounds (two_and_more_of words) r h

@@ -1,18 +1,14 @@
 -- Words that are written of an item have no space.
 use Rattle.std.proofs.Common.{◌≡◌, ℕ, ◌^◌, ◌<◌, Bool, true, false, not, List, [], ◌∷◌, refl, arith}
 use Rattle.std.specs.Prelude.{All, codes, decimal}
-use Rattle.std.specs.Char.{is_ascii_digit}
 use Rattle.std.specs.List.{list_all}
-use Rattle.std.proofs.lemmas.Bool.{and_parts}
 use Rattle.std.proofs.lemmas.Bool.Decides.{nat_tests}
-use Rattle.std.proofs.lemmas.Fmt.{digits_decimal}
-use Rattle.std.proofs.lemmas.List.Elements.{All-append, All-cons, All-nil, All-weaker}
+use Rattle.std.proofs.lemmas.List.Elements.{All-cons, All-nil, All-weaker}
 use Rattle.std.proofs.lemmas.List.Sums.{AllPass-from_list_all}
 use Rattle.hex.specs.Hex.{IsBytes, encode_lower}
-use Rattle.mat_digest.specs.Digests.{IsDigest, digest_text, hash_text, is_lower_digit}
-use Rattle.mat_digest.specs.declared.digest.Digest.{Digest}
+use Rattle.mat_digest.specs.Digests.{digest_text, is_lower_digit}
 use Rattle.mat_digest.proofs.Hashes.{AllPass-encode_lower}
-use Rattle.mat_path.specs.Names.{is_name, is_name_byte, is_path, is_text_byte, joined}
+use Rattle.mat_path.specs.Names.{is_path, joined}
 use Rattle.mat_path.proofs.ReadLemmas.{names_of_path}
 use Rattle.mat_model.specs.declared.answers.Device.{Device}
 use Rattle.mat_model.specs.declared.answers.Device.TheVariants as device
@@ -29,7 +25,7 @@ use Rattle.script_lang.specs.declared.items.Item.TheVariants as item
 use Rattle.script_lang.specs.declared.items.Pick.{Pick}
 use Rattle.script_lang.specs.declared.items.Pick.TheVariants as pick
 use Rattle.script_lang.specs.Texts.{device_text, kind_text}
-use Rattle.script_lang.specs.Written.{IsAddressed, IsItem, IsRequest, bytes_word, item_words, mode_text, pick_text, request_words}
+use Rattle.script_lang.specs.Written.{IsAddressed, IsItem, IsRequest, bytes_word, flag_words, item_words, mode_text, pick_text, request_words}
 
 -- ---- single words
 
@@ -96,10 +92,17 @@ addressed verb command path ws given h hs =
 none : All IsClear []
 none = All-nil IsClear
 
+clear_flags : (soft refuse : Bool) → All IsClear (flag_words soft refuse)
+clear_flags false false = none
+clear_flags true false = one (codes "p") (clear_given (codes "p") refl)
+clear_flags false true = one (codes "r") (clear_given (codes "r") refl)
+clear_flags true true = one (codes "pr") (clear_given (codes "pr") refl)
+
 clear_request : (asked : Request) → IsRequest asked → All IsClear (request_words asked)
-clear_request (request.Enter command state) h =
-    more (codes "enter") (decimal command ∷ decimal state ∷ []) (clear_given (codes "enter") refl)
-    (more (decimal command) (decimal state ∷ []) (clear_command command h.0) (one (decimal state) (clear_decimal state h.1)))
+clear_request (request.Enter command state soft refuse) h =
+    more (codes "enter") (decimal command ∷ decimal state ∷ flag_words soft refuse) (clear_given (codes "enter") refl)
+    (more (decimal command) (decimal state ∷ flag_words soft refuse) (clear_command command h.0)
+    (more (decimal state) (flag_words soft refuse) (clear_decimal state h.1) (clear_flags soft refuse)))
 clear_request (request.Leave command) h =
     more (codes "leave") (decimal command ∷ []) (clear_given (codes "leave") refl) (one (decimal command) (clear_command command h))
 clear_request (request.Write command path bytes) h =

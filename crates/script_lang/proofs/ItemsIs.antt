@@ -2,6 +2,7 @@
 use Rattle.std.proofs.Common.{◌≡◌, ℕ, ◌+◌, ◌^◌, ◌<◌, Bool, true, false, nat_le, if◌then◌else◌, List, [], ◌∷◌, ◌++◌, Option, Some, None, Result, Ok, Err, refl, sym, ◌∙◌, ap, ap₂, subst, append_assoc}
 use Rattle.std.specs.Prelude.{codes}
 use Rattle.std.specs.List.{flat_map, list_all}
+use Rattle.std.specs.Option.{option_to_list}
 use Rattle.std.specs.Result.{result_ok}
 use Rattle.std.proofs.lemmas.List.Splits.{join_with_byte-slice_split}
 use Rattle.mat_digest.specs.Digests.{digest_text, read_digest}
@@ -23,13 +24,13 @@ use Rattle.script_lang.specs.declared.verbs.Asking.{Asking}
 use Rattle.script_lang.specs.declared.verbs.Asking.TheVariants as asking
 use Rattle.script_lang.specs.declared.verbs.Doing.{Doing}
 use Rattle.script_lang.specs.declared.verbs.Doing.TheVariants as doing
-use Rattle.script_lang.specs.Items.{Word, a_sum, at_of, blob_of, clean_of, copy_of, declare_of, enter_of, ensure_of, fail_of, four_of, has_of, invalidate_of, item_behind, item_of, leave_of, lie_of, match_of, one_of, other_of, placed, request_of, show_of, step_of, stop_of, three_of, two_and_more_of, two_of, with_two, write_of}
-use Rattle.script_lang.specs.Spelled.{command_of, digest_of, kind_of, tree_spelled}
+use Rattle.script_lang.specs.Items.{Word, a_sum, an_enter, at_of, blob_of, clean_of, copy_of, declare_of, enter_of, ensure_of, fail_of, four_of, has_of, invalidate_of, item_behind, item_of, leave_of, lie_of, match_of, one_of, other_of, placed, request_of, show_of, step_of, stop_of, three_of, two_and_more_of, two_of, two_or_three_of, with_two, write_of}
+use Rattle.script_lang.specs.Spelled.{command_of, count_of, digest_of, flags_of, kind_of, tree_spelled}
 use Rattle.script_lang.specs.Texts.{kind_text}
 use Rattle.script_lang.specs.Verbs.{asking_of, doing_of}
-use Rattle.script_lang.specs.Written.{bytes_word, item_text, item_words, request_words}
+use Rattle.script_lang.specs.Written.{bytes_word, flag_words, item_text, item_words, request_words}
 use Rattle.script_lang.proofs.BoundsLemmas.{parts_of_one, parts_of_three, parts_of_two}
-use Rattle.script_lang.proofs.SpelledIs.{text_by_first, bytes_word-bytes_of, decimal-command_of, decimal-count_of, device_text-device_of, digest_text-digest_of, kind_text-kind_of, mode_text-mode_of, decimal-moment_of, joined-path_of, pick_text-pick_of, decimal-place_of, equal_if_same_name, decimal-worker_of}
+use Rattle.script_lang.proofs.SpelledIs.{text_by_first, bytes_word-bytes_of, decimal-command_of, decimal-count_of, device_text-device_of, digest_text-digest_of, flag_words-flags_of, kind_text-kind_of, mode_text-mode_of, decimal-moment_of, joined-path_of, pick_text-pick_of, decimal-place_of, equal_if_same_name, decimal-worker_of}
 
 -- ---- trees
 
@@ -145,6 +146,13 @@ two_is (a ∷ []) p h = absurd cc
 two_is (a ∷ b ∷ []) p h = ap (λ (q : Word × Word). q.0 ∷ q.1 ∷ []) (let s : (a, b) ≡ p = cc in s)
 two_is (a ∷ b ∷ c ∷ more) p h = absurd cc
 
+two_or_three_is : (ws : List Word) (p : Word × Word × Option Word) → two_or_three_of ws ≡ Some p → ws ≡ p.0 ∷ p.1 ∷ option_to_list p.2
+two_or_three_is [] p h = absurd cc
+two_or_three_is (a ∷ []) p h = absurd cc
+two_or_three_is (a ∷ b ∷ []) p h = ap (λ (q : Word × Word × Option Word). q.0 ∷ q.1 ∷ option_to_list q.2) (let s : (a, b, None) ≡ p = cc in s)
+two_or_three_is (a ∷ b ∷ c ∷ []) p h = ap (λ (q : Word × Word × Option Word). q.0 ∷ q.1 ∷ option_to_list q.2) (let s : (a, b, Some c) ≡ p = cc in s)
+two_or_three_is (a ∷ b ∷ c ∷ d ∷ more) p h = absurd cc
+
 three_is : (ws : List Word) (p : Word × Word × Word) → three_of ws ≡ Some p → ws ≡ p.0 ∷ p.1 ∷ p.2 ∷ []
 three_is [] p h = absurd cc
 three_is (a ∷ []) p h = absurd cc
@@ -167,12 +175,15 @@ more_is (a ∷ b ∷ more) p h = ap (λ (q : Word × Word × List Word). q.0 ∷
 
 -- ---- requests
 
-enter_words : (ws : List Word) (o : Option (Word × Word)) (r : Request) → two_of ws ≡ o → enter_of o ≡ Some r → request_words r ≡ codes "enter" ∷ ws
+enter_words : (ws : List Word) (o : Option (Word × Word × Option Word)) (r : Request) → two_or_three_of ws ≡ o → enter_of o ≡ Some r
+    → request_words r ≡ codes "enter" ∷ ws
 enter_words ws None r is h = absurd cc
 enter_words ws (Some w) r is h =
-    let got = parts_of_two request.Enter _ _ r h in
-    ap request_words (sym got.4) ∙ ap₂ (λ (a b : Word). codes "enter" ∷ a ∷ b ∷ []) (sym (decimal-command_of w.0 got.0 got.2)) (sym (decimal-count_of w.1 got.1 got.3))
-    ∙ ap (λ (l : List Word). codes "enter" ∷ l) (sym (two_is ws w is))
+    let got = parts_of_three an_enter (command_of w.0) (count_of w.1) (flags_of w.2) r h in
+    ap request_words (sym got.6)
+    ∙ ap₂ (λ (a b : Word). codes "enter" ∷ a ∷ b ∷ flag_words got.2.soft got.2.refuse) (sym (decimal-command_of w.0 got.0 got.3)) (sym (decimal-count_of w.1 got.1 got.4))
+    ∙ ap (λ (l : List Word). codes "enter" ∷ w.0 ∷ w.1 ∷ l) (sym (flag_words-flags_of w.2 got.2 got.5))
+    ∙ ap (λ (l : List Word). codes "enter" ∷ l) (sym (two_or_three_is ws w is))
 
 has_words : (ws : List Word) (o : Option (Word × Word)) (r : Request) → two_of ws ≡ o → has_of o ≡ Some r → request_words r ≡ codes "has" ∷ ws
 has_words ws None r is h = absurd cc
@@ -283,7 +294,7 @@ asking_word asking.Clean = codes "clean"
 asking_word asking.Flush = codes "flush"
 
 request_is : (asked : Asking) (ws : List Word) (r : Request) → request_of asked ws ≡ Some r → request_words r ≡ asking_word asked ∷ ws
-request_is asking.Enter ws r h = enter_words ws (two_of ws) r refl h
+request_is asking.Enter ws r h = enter_words ws (two_or_three_of ws) r refl h
 request_is asking.Leave ws r h = leave_words ws (one_of ws) r refl h
 request_is asking.Write ws r h = write_words ws (three_of ws) r refl h
 request_is asking.Declare ws r h = declare_words ws (two_and_more_of ws) r refl h

@@ -1,17 +1,18 @@
 -- An item that a line says is written as that line.
-use Rattle.std.proofs.Common.{◌≡◌, ℕ, ◌%◌, ◌^◌, ◌<◌, ◌≤◌, ◌==◌, ◌&&◌, Bool, true, false, not, nat_le, nat_lt, if◌then◌else◌, List, [], ◌∷◌, length, slice_index, Option, Some, None, Result, Ok, Err, refl, sym, ◌∙◌, ap, subst, arith}
+use Rattle.std.proofs.Common.{◌≡◌, ℕ, ◌%◌, ◌^◌, ◌<◌, ◌≤◌, ◌==◌, ◌&&◌, Bool, true, false, not, nat_le, nat_lt, if◌then◌else◌, List, [], ◌∷◌, length, Option, Some, None, Result, Ok, Err, refl, sym, ◌∙◌, ap, subst, arith}
 use Rattle.std.specs.Prelude.{IfOk, codes, decimal}
 use Rattle.std.specs.Char.{is_ascii_digit}
 use Rattle.std.specs.List.{list_all}
+use Rattle.std.specs.Option.{option_to_list}
 use Rattle.std.specs.Result.{result_ok, result_unwrap_or}
 use Rattle.std.specs.Str.Parse.{digits_value}
 use Rattle.std.proofs.lemmas.Bool.{and_parts, eqb-true, lt-ltb, ltb-true, not-true}
-use Rattle.std.proofs.lemmas.Bool.Decides.{Decides-eqb, nat_tests}
+use Rattle.std.proofs.lemmas.Bool.Decides.{Decides-eqb}
 use Rattle.std.proofs.lemmas.List.Splits.{join_with_byte-slice_split}
 use Rattle.std.proofs.lemmas.List.Sums.{AllPass-from_list_all}
 use Rattle.std.proofs.lemmas.Slice.Eq.{slice_eq-Decides}
 use Rattle.hex.specs.Hex.{decode_of, encode_lower, encode_with}
-use Rattle.mat_digest.specs.Digests.{digest_text, has_leading_zero, is_lower_digit, number_written, read_digest}
+use Rattle.mat_digest.specs.Digests.{digest_text, has_leading_zero, is_lower_digit, read_digest}
 use Rattle.mat_digest.specs.declared.digest.Digest.{Digest}
 use Rattle.mat_digest.specs.declared.digest.DigestRefusal.{DigestRefusal}
 use Rattle.mat_digest.proofs.Hashes.{encode_lower-hash_spelled}
@@ -24,11 +25,12 @@ use Rattle.mat_model.specs.declared.requests.CleanMode.{CleanMode}
 use Rattle.mat_model.specs.declared.requests.CleanMode.TheVariants as mode
 use Rattle.mat_tree.specs.declared.sum.Kind.{Kind}
 use Rattle.mat_tree.specs.declared.sum.Kind.TheVariants as kind
+use Rattle.script_lang.specs.declared.flags.Flags.{Flags}
 use Rattle.script_lang.specs.declared.items.Pick.{Pick}
 use Rattle.script_lang.specs.declared.items.Pick.TheVariants as pick
-use Rattle.script_lang.specs.Spelled.{at_least_one, below, bytes_of, command_of, count_of, device_of, digest_of, is_hex, is_number, kind_of, mode_of, moment_of, number_of, pick_of, place_of, worker_of}
+use Rattle.script_lang.specs.Spelled.{at_least_one, below, bytes_of, command_of, count_of, device_of, digest_of, flags_of, is_hex, is_number, kind_of, mode_of, moment_of, number_of, pick_of, place_of, worker_of}
 use Rattle.script_lang.specs.Texts.{device_text, kind_text}
-use Rattle.script_lang.specs.Written.{bytes_word, mode_text, pick_text}
+use Rattle.script_lang.specs.Written.{bytes_word, flag_words, mode_text, pick_text}
 use Rattle.script_lang.proofs.NumberLemmas.{number_is_digits}
 
 -- ---- words that are given
@@ -69,6 +71,30 @@ pub pick_text-pick_of : (w : List ℕ) (p : Pick) → pick_of w ≡ Some p → w
 pick_text-pick_of w p h =
     text_by_first pick_text w (codes "none") pick.Nothing p _ refl
     (text_by_first pick_text w (codes "whole") pick.Whole p _ refl (text_by_first pick_text w (codes "torn") pick.Torn p None refl (λ e. absurd cc))) h
+
+-- ---- flags
+
+-- the words that are written of flags
+abbrev words_of_flags : Flags → List (List ℕ)
+words_of_flags flags = flag_words flags.soft flags.refuse
+
+-- a word that passes the first of some tests, or one behind it, is the one word of the flags that it spells
+flags_by_first : (word given : List ℕ) (a r : Flags) (rest : Option Flags) → given ∷ [] ≡ words_of_flags a
+    → (rest ≡ Some r → word ∷ [] ≡ words_of_flags r) → (if same_name word given then Some a else rest) ≡ Some r → word ∷ [] ≡ words_of_flags r
+flags_by_first word given a r rest is later h = by_test (same_name word given) refl h
+  where
+    by_test : (t : Bool) → same_name word given ≡ t → (if t then Some a else rest) ≡ Some r → word ∷ [] ≡ words_of_flags r
+    by_test true e same =
+        ap (λ (w : List ℕ). w ∷ []) (equal_if_same_name word given e) ∙ is ∙ ap words_of_flags (let s : a ≡ r = cc in s)
+    by_test false e same = later same
+
+-- the word that spells flags, or none, is what is written of them
+pub flag_words-flags_of : (o : Option (List ℕ)) (flags : Flags) → flags_of o ≡ Some flags → option_to_list o ≡ flag_words flags.soft flags.refuse
+flag_words-flags_of None flags h = ap words_of_flags (let s : record { soft = false; refuse = false } ≡ flags = cc in s)
+flag_words-flags_of (Some w) flags h =
+    flags_by_first w (codes "p") (record { soft = true; refuse = false }) flags _ refl
+    (flags_by_first w (codes "r") (record { soft = false; refuse = true }) flags _ refl
+    (flags_by_first w (codes "pr") (record { soft = true; refuse = true }) flags None refl (λ e. absurd cc))) h
 
 -- ---- numbers
 

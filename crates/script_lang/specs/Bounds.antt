@@ -11,7 +11,7 @@ use Rattle.script_lang.specs.declared.items.Line.TheVariants as line
 
 -- what the language asks of a request beyond what its type says
 abbrev pub HasRequestBounds : Request → Type 0
-HasRequestBounds (request.Enter command state) = Unit {0}
+HasRequestBounds (request.Enter command state soft refuse) = Unit {0}
 HasRequestBounds (request.Leave command) = Unit {0}
 HasRequestBounds (request.Write command path bytes) = Unit {0}
 HasRequestBounds (request.Declare command path tree) = list_all (is_placed path) tree ≡ true

@@ -1,22 +1,23 @@
 -- The forms of lines: what the words of each say.
 use Rattle.mat_tree.specs.Trees.{is_placed}
-use Rattle.std.specs.Prelude.{ℕ, Bool, true, false, if◌then◌else◌, List, [], ◌∷◌, ◌++◌, Option, Some, None}
+use Rattle.std.specs.Prelude.{ℕ, if◌then◌else◌, List, [], ◌∷◌, Option, Some, None}
 use Rattle.std.specs.List.{list_all}
 use Rattle.mat_digest.specs.declared.digest.Digest.{Digest}
-use Rattle.mat_path.specs.Names.{is_path, path_of}
+use Rattle.mat_path.specs.Names.{path_of}
 use Rattle.mat_model.specs.declared.requests.Request.{Request}
 use Rattle.mat_model.specs.declared.requests.Request.TheVariants as request
 use Rattle.mat_tree.specs.declared.flat.Flat.{Flat}
 use Rattle.mat_tree.specs.declared.sum.Kind.{Kind}
 use Rattle.mat_tree.specs.declared.sum.Sum.{Sum}
 use Rattle.tree_words.specs.Rests.{none_of}
+use Rattle.script_lang.specs.declared.flags.Flags.{Flags}
 use Rattle.script_lang.specs.declared.items.Item.{Item}
 use Rattle.script_lang.specs.declared.items.Item.TheVariants as item
 use Rattle.script_lang.specs.declared.verbs.Asking.{Asking}
 use Rattle.script_lang.specs.declared.verbs.Asking.TheVariants as asking
 use Rattle.script_lang.specs.declared.verbs.Doing.{Doing}
 use Rattle.script_lang.specs.declared.verbs.Doing.TheVariants as doing
-use Rattle.script_lang.specs.Spelled.{bytes_of, command_of, count_of, device_of, digest_of, kind_of, mode_of, moment_of, pick_of, place_of, tree_spelled, worker_of}
+use Rattle.script_lang.specs.Spelled.{bytes_of, command_of, count_of, device_of, digest_of, flags_of, kind_of, mode_of, moment_of, pick_of, place_of, tree_spelled, worker_of}
 use Rattle.script_lang.specs.Verbs.{asking_of, doing_of}
 
 -- ---- how many words there are
@@ -36,6 +37,14 @@ two_of [] = None
 two_of (a ∷ []) = None
 two_of (a ∷ b ∷ []) = Some (a, b)
 two_of (a ∷ b ∷ c ∷ more) = None
+
+-- two words, and a third one if it is there
+abbrev pub two_or_three_of : List Word → Option (Word × Word × Option Word)
+two_or_three_of [] = None
+two_or_three_of (a ∷ []) = None
+two_or_three_of (a ∷ b ∷ []) = Some (a, b, None)
+two_or_three_of (a ∷ b ∷ c ∷ []) = Some (a, b, Some c)
+two_or_three_of (a ∷ b ∷ c ∷ d ∷ more) = None
 
 abbrev pub three_of : List Word → Option (Word × Word × Word)
 three_of [] = None
@@ -87,9 +96,13 @@ placed (Some path) (Some tree) = if list_all (is_placed path) tree then Some tre
 placed (Some path) None = None
 placed None tree = None
 
--- `enter C STATE`
-abbrev pub enter_of : Option (Word × Word) → Option Request
-enter_of (Some words) = with_two request.Enter (command_of words.0) (count_of words.1)
+-- an enter with flags
+abbrev pub an_enter : ℕ → ℕ → Flags → Request
+an_enter command state flags = request.Enter command state flags.soft flags.refuse
+
+-- `enter C STATE` and `enter C STATE FLAGS`
+abbrev pub enter_of : Option (Word × Word × Option Word) → Option Request
+enter_of (Some words) = with_three an_enter (command_of words.0) (count_of words.1) (flags_of words.2)
 enter_of None = None
 
 -- `leave C`
@@ -141,7 +154,7 @@ clean_of None = None
 
 -- the request that the words behind the first say
 abbrev pub request_of : Asking → List Word → Option Request
-request_of asking.Enter words = enter_of (two_of words)
+request_of asking.Enter words = enter_of (two_or_three_of words)
 request_of asking.Leave words = leave_of (one_of words)
 request_of asking.Write words = write_of (three_of words)
 request_of asking.Declare words = declare_of (two_and_more_of words)

@@ -1,5 +1,5 @@
 -- What one word spells, and what the words of a tree spell.
-use Rattle.std.specs.Prelude.{ℕ, ◌==◌, ◌^◌, ◌%◌, ◌&&◌, nat_le, nat_lt, codes, Bool, not, if◌then◌else◌, List, [], length, Option, Some, None}
+use Rattle.std.specs.Prelude.{ℕ, ◌==◌, ◌^◌, ◌%◌, ◌&&◌, nat_le, nat_lt, codes, Bool, not, if◌then◌else◌, List, [], length, Option, Some, None, true, false}
 use Rattle.std.specs.Char.{is_ascii_digit}
 use Rattle.std.specs.List.{list_all}
 use Rattle.std.specs.Result.{result_ok, result_unwrap_or}
@@ -16,6 +16,7 @@ use Rattle.mat_tree.specs.declared.flat.Flat.{Flat}
 use Rattle.mat_tree.specs.declared.sum.Kind.{Kind}
 use Rattle.mat_tree.specs.declared.sum.Kind.TheVariants as kind
 use Rattle.tree_words.specs.Words.{at_kind, read_from, tree_of}
+use Rattle.script_lang.specs.declared.flags.Flags.{Flags}
 use Rattle.script_lang.specs.declared.items.Pick.{Pick}
 use Rattle.script_lang.specs.declared.items.Pick.TheVariants as pick
 
@@ -58,6 +59,21 @@ place_of word = at_least_one (count_of word)
 -- the number of a worker, of which there are so many
 abbrev pub worker_of : ℕ → List ℕ → Option ℕ
 worker_of workers word = below workers (number_of word)
+
+-- ---- flags
+
+-- the flags that a word spells: `p` for a soft command, `r` for one that refuses to wait where another state is live, `pr` for both
+abbrev pub flags_spelled : List ℕ → Option Flags
+flags_spelled word =
+    if same_name word (codes "p") then Some (record { soft = true; refuse = false })
+    else if same_name word (codes "r") then Some (record { soft = false; refuse = true })
+    else if same_name word (codes "pr") then Some (record { soft = true; refuse = true })
+    else None
+
+-- the flags of a command: none are set where no word spells some
+abbrev pub flags_of : Option (List ℕ) → Option Flags
+flags_of None = Some (record { soft = false; refuse = false })
+flags_of (Some word) = flags_spelled word
 
 -- ---- bytes and digests
 

@@ -85,6 +85,7 @@ clean_text dry rows strays =
 -- a reply; behind its last line stands no newline
 abbrev pub reply_text : Reply → List ℕ
 reply_text reply.Entered = codes "entered"
+reply_text (reply.Took count) = numbered (codes "took ") count
 reply_text (reply.Left count) = numbered (codes "left ") count
 reply_text (reply.Declared stamp) = numbered (codes "declared ") stamp
 reply_text (reply.Kept stamp) = numbered (codes "kept ") stamp
@@ -100,6 +101,7 @@ reply_text (reply.Cleaned dry rows strays) = clean_text dry rows strays
 reply_text (reply.Flushed count) = numbered (codes "flushed ") count
 reply_text reply.NotLive = codes "notlive"
 reply_text reply.Known = codes "known"
+reply_text (reply.Differs state) = numbered (codes "differs ") state
 reply_text (reply.Queued place) = numbered (codes "queued ") place
 reply_text reply.Unknown = codes "unknown"
 reply_text (reply.Busy count) = numbered (codes "busy ") count
@@ -122,6 +124,7 @@ answer_text (answer.Missing digest) = codes "missing " ++ digest_text digest
 answer_text (answer.Corrupt wanted found) = codes "corrupt " ++ digest_text wanted ++ codes " " ++ digest_text found
 answer_text (answer.Fault note) = note_text (codes "fault ") note
 answer_text answer.NoMemory = codes "nomem"
+answer_text (answer.Preempted command) = numbered (codes "preempted ") command
 
 -- a job that began
 abbrev pub task_text : Task → List ℕ

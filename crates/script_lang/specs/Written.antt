@@ -1,5 +1,5 @@
 -- The text of an item, and what its type says of it.
-use Rattle.std.specs.Prelude.{◌≡◌, ℕ, ◌^◌, ◌<◌, All, codes, decimal, true, List, [], ◌∷◌}
+use Rattle.std.specs.Prelude.{◌≡◌, ℕ, ◌^◌, ◌<◌, All, codes, decimal, Bool, true, false, List, [], ◌∷◌}
 use Rattle.std.specs.List.{flat_map}
 use Rattle.hex.specs.Hex.{IsBytes, encode_lower}
 use Rattle.mat_digest.specs.Digests.{IsDigest, digest_text}
@@ -37,9 +37,23 @@ pick_text pick.Nothing = codes "none"
 pick_text pick.Whole = codes "whole"
 pick_text pick.Torn = codes "torn"
 
+-- the words of the flags of a command that comes: none where no flag is set
+abbrev pub flag_words : Bool → Bool → List (List ℕ)
+flag_words false false = []
+flag_words true false = codes "p" ∷ []
+flag_words false true = codes "r" ∷ []
+flag_words true true = codes "pr" ∷ []
+
+-- what stands of the flags behind the other words of a line: that word, with a space before it, or nothing
+abbrev pub flags_text : Bool → Bool → List ℕ
+flags_text false false = []
+flags_text true false = codes " p"
+flags_text false true = codes " r"
+flags_text true true = codes " pr"
+
 -- the words of a request
 abbrev pub request_words : Request → List (List ℕ)
-request_words (request.Enter command state) = codes "enter" ∷ decimal command ∷ decimal state ∷ []
+request_words (request.Enter command state soft refuse) = codes "enter" ∷ decimal command ∷ decimal state ∷ flag_words soft refuse
 request_words (request.Leave command) = codes "leave" ∷ decimal command ∷ []
 request_words (request.Write command path bytes) = codes "write" ∷ decimal command ∷ joined path ∷ bytes_word bytes ∷ []
 request_words (request.Declare command path tree) = codes "declare" ∷ decimal command ∷ joined path ∷ flat_map node_words tree
@@ -87,7 +101,7 @@ pub record IsAddressed (command : ℕ) (path : List (List ℕ)) : Type 0 where
 
 -- what the type of a request says of it
 abbrev pub IsRequest : Request → Type 0
-IsRequest (request.Enter command state) = (command < 2 ^ 32) × (state < 2 ^ 64)
+IsRequest (request.Enter command state soft refuse) = (command < 2 ^ 32) × (state < 2 ^ 64)
 IsRequest (request.Leave command) = command < 2 ^ 32
 IsRequest (request.Write command path bytes) = IsAddressed command path × IsBytes bytes
 IsRequest (request.Declare command path tree) = IsAddressed command path × IsTree tree × All IsNode tree

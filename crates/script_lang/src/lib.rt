@@ -5,6 +5,7 @@
 //! read is written as the line again.
 #![tactic(auto)]
 
+mod flags;
 mod items;
 mod lines;
 mod requests;

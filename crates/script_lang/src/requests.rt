@@ -4,14 +4,15 @@ ghost use Rattle.std.specs.Prelude.{◌≡◌, IfOk};
 ghost use Rattle.std.specs.List.{list_all};
 ghost use Rattle.mat_model.specs.declared.requests.Request.TheVariants as request;
 ghost use Rattle.script_lang.specs.declared.verbs.Asking.TheVariants as asking;
-ghost use Rattle.script_lang.specs.Items.{a_sum, clean_of, copy_of, declare_of, enter_of, ensure_of, four_of, has_of, invalidate_of, leave_of, match_of, one_of, placed, request_of, three_of, two_and_more_of, two_of, with_one, with_three, with_two, write_of};
+ghost use Rattle.script_lang.specs.Items.{a_sum, an_enter, clean_of, copy_of, declare_of, enter_of, ensure_of, four_of, has_of, invalidate_of, leave_of, match_of, one_of, placed, request_of, three_of, two_and_more_of, two_of, two_or_three_of, with_one, with_three, with_two, write_of};
 
+use crate::flags::Flags;
 use crate::spelled::{
-    bytes_spelled, command_spelled, count_spelled, digest_spelled, kind_spelled, mode_spelled,
-    moment_spelled, path_spelled, tree_spelled,
+    bytes_spelled, command_spelled, count_spelled, digest_spelled, flags_spelled, kind_spelled,
+    mode_spelled, moment_spelled, path_spelled, tree_spelled,
 };
 use crate::verbs::Asking;
-use crate::words::{four, one, three, two, two_and_more};
+use crate::words::{four, one, three, two, two_and_more, two_or_three};
 use mat_digest::Digest;
 use mat_model::{CleanMode, Request};
 use mat_path::{Items, Memory, Path};
@@ -44,21 +45,31 @@ pub(crate) fn read_request(
 
 // The request of the words behind `enter`.
 fn read_enter(words: Words<'_>) -> Option<Request>
-    ensures { result ≡ enter_of (two_of words.entry) }
+    ensures { result ≡ enter_of (two_or_three_of words.entry) }
 {
-    match two(words) {
-        Some((command, state)) => an_enter(command_spelled(command), count_spelled(state)),
+    match two_or_three(words) {
+        Some((command, state, flags)) => an_enter(
+            command_spelled(command),
+            count_spelled(state),
+            flags_spelled(flags),
+        ),
         None => None,
     }
 }
 
 // An enter, if its parts are there.
-fn an_enter(command: Option<u32>, state: Option<u64>) -> Option<Request>
-    ensures { result ≡ with_two request.Enter command state }
+fn an_enter(command: Option<u32>, state: Option<u64>, flags: Option<Flags>) -> Option<Request>
+    ensures { result ≡ with_three an_enter command state flags }
 {
     let command = command?;
     let state = state?;
-    Some(Request::Enter { command, state })
+    let flags = flags?;
+    Some(Request::Enter {
+        command,
+        state,
+        soft: flags.soft,
+        refuse: flags.refuse,
+    })
 }
 
 // The request of the words behind `leave`.

@@ -1,11 +1,13 @@
 // What one word spells, and what the words of a tree spell.
 ghost use Rattle.std.specs.Prelude.{◌≡◌, ◌^◌, true, false, Some, None, IfOk, MatchOption};
 ghost use Rattle.std.specs.List.{list_all};
+ghost use Rattle.std.specs.Option.{option_copied};
 ghost use Rattle.mat_digest.specs.Digests.{is_lower_digit};
 ghost use Rattle.mat_path.specs.Names.{path_of};
 ghost use Rattle.tree_words.specs.Rests.{words_of};
-ghost use Rattle.script_lang.specs.Spelled.{at_least_one, below, bytes_of, command_of, count_of, device_of, digest_of, is_hex, is_number, kind_of, mode_of, moment_of, pick_of, place_of, tree_spelled, worker_of};
+ghost use Rattle.script_lang.specs.Spelled.{at_least_one, below, bytes_of, command_of, count_of, device_of, digest_of, flags_of, flags_spelled, is_hex, is_number, kind_of, mode_of, moment_of, pick_of, place_of, tree_spelled, worker_of};
 
+use crate::flags::Flags;
 use crate::items::Pick;
 use mat_digest::{Digest, are_digits, has_leading_zero, is_lower_digit};
 use mat_model::{CleanMode, Device};
@@ -221,6 +223,44 @@ pub(crate) fn pick_spelled(word: &[u8]) -> Option<Pick>
         return Some(Pick::Torn);
     }
     None
+}
+
+// The flags that a word spells.
+fn flags_named(word: &[u8]) -> Option<Flags>
+    ensures { result ≡ flags_spelled word.now }
+{
+    if word == b"p".as_slice() {
+        return Some(Flags {
+            soft: true,
+            refuse: false,
+        });
+    }
+    if word == b"r".as_slice() {
+        return Some(Flags {
+            soft: false,
+            refuse: true,
+        });
+    }
+    if word == b"pr".as_slice() {
+        return Some(Flags {
+            soft: true,
+            refuse: true,
+        });
+    }
+    None
+}
+
+// The flags of a command that comes: none are set where no word spells some.
+pub(crate) fn flags_spelled(word: Option<&[u8]>) -> Option<Flags>
+    ensures { result ≡ flags_of (option_copied word.entry) }
+{
+    match word {
+        Some(word) => flags_named(word),
+        None => Some(Flags {
+            soft: false,
+            refuse: false,
+        }),
+    }
 }
 
 // The tree that a text spells.

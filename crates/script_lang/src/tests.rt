@@ -22,8 +22,13 @@ fn said_of(alloc: Global, line: &[u8], workers: u32) -> Result<Vec<u8>, Memory> 
 
 #[test]
 fn items_are_written_as_they_were_read(rt: HostRuntime) -> Result<(), Fail> {
-    let table: [&[u8]; 36] = [
+    let table: [&[u8]; 41] = [
         b"enter 1 7",
+        b"enter 1 2 p",
+        b"enter 1 2 r",
+        b"enter 1 2 pr",
+        b"enter 4294967295 18446744073709551615 pr",
+        b"enter 0 0 p",
         b"enter 4294967295 18446744073709551615",
         b"leave 0",
         b"write 1 p/q 00ff",
@@ -82,7 +87,7 @@ fn lines_that_are_no_items(rt: HostRuntime) -> Result<(), Fail> {
 
 #[test]
 fn lines_that_say_nothing(rt: HostRuntime) -> Result<(), Fail> {
-    let table: [&[u8]; 47] = [
+    let table: [&[u8]; 57] = [
         b"foo",
         b" ",
         b"end ",
@@ -108,6 +113,16 @@ fn lines_that_say_nothing(rt: HostRuntime) -> Result<(), Fail> {
         b"enter 1 7 ",
         b"enter 4294967296 7",
         b"enter 1 18446744073709551616",
+        b"enter 1",
+        b"enter 1 2 rp",
+        b"enter 1 2 p r",
+        b"enter 1 2 pr pr",
+        b"enter 1 2 x",
+        b"enter 1 2 P",
+        b"enter 1 2 pp",
+        b"enter 1 2 ",
+        b"enter 1 2 p ",
+        b"enter 1 p",
         b"declare 1 p",
         b"declare 1 p ",
         b"declare 1 p d",
@@ -243,7 +258,12 @@ fn what_is_replied(rt: HostRuntime) -> Result<(), Fail> {
         rows: Items::of(rows),
         strays: Items::of(strays),
     };
-    let table: [(Reply, &[u8]); 30] = [
+    let table: [(Reply, &[u8]); 32] = [
+        (Reply::Took(3), b"took 3\n"),
+        (
+            Reply::Differs(18_446_744_073_709_551_615),
+            b"differs 18446744073709551615\n",
+        ),
         (Reply::Left(2), b"left 2\n"),
         (Reply::Known, b"known\n"),
         (Reply::Unknown, b"unknown\n"),
@@ -317,12 +337,16 @@ fn nodes_and_answers_are_told(rt: HostRuntime) -> Result<(), Fail> {
         ticket: 4,
         answer: Answer::NoMemory,
     })?;
+    answers.push(Answered {
+        ticket: 6,
+        answer: Answer::Preempted(4_294_967_295),
+    })?;
     let told = Told {
         said: Said::Shown(Items::of(nodes)),
         answers: Items::of(answers),
     };
     let text =
-        b"show 2\nd .\nl ../t b/c\nanswer 5 missing abababababababababababababababababababababababababababababababab:3\nanswer 3 fault store 4 6\nanswer 4 nomem\n";
+        b"show 2\nd .\nl ../t b/c\nanswer 5 missing abababababababababababababababababababababababababababababababab:3\nanswer 3 fault store 4 6\nanswer 4 nomem\nanswer 6 preempted 4294967295\n";
     assert_eq!(rt; write_told(alloc, &told)?.as_slice(), text.as_slice());
     Ok(())
 }

@@ -209,6 +209,7 @@ pub fn push_reply(out: &mut Vec<u8>, reply: &Reply) -> Result<(), Memory>
 {
     match reply {
         Reply::Entered => push_text(out, b"entered"),
+        Reply::Took(count) => push_numbered(out, b"took ", *count),
         Reply::Left(count) => push_numbered(out, b"left ", *count),
         Reply::Declared(stamp) => push_numbered(out, b"declared ", *stamp),
         Reply::Kept(stamp) => push_numbered(out, b"kept ", *stamp),
@@ -226,6 +227,7 @@ pub fn push_reply(out: &mut Vec<u8>, reply: &Reply) -> Result<(), Memory>
         Reply::Flushed(count) => push_numbered(out, b"flushed ", *count),
         Reply::NotLive => push_text(out, b"notlive"),
         Reply::Known => push_text(out, b"known"),
+        Reply::Differs(state) => push_numbered(out, b"differs ", *state),
         Reply::Queued(place) => push_numbered(out, b"queued ", *place),
         Reply::Unknown => push_text(out, b"unknown"),
         Reply::Busy(count) => push_numbered(out, b"busy ", *count),
@@ -273,6 +275,7 @@ pub fn push_answer(out: &mut Vec<u8>, answer: &Answer) -> Result<(), Memory>
         }
         Answer::Fault(note) => push_note(out, b"fault ", note),
         Answer::NoMemory => push_text(out, b"nomem"),
+        Answer::Preempted(command) => push_numbered(out, b"preempted ", *command as u64),
     }
 }
 

@@ -1,6 +1,7 @@
 // How many words a line has behind its first.
 ghost use Rattle.std.specs.Prelude.{◌≡◌, Some, None, MatchOption};
-ghost use Rattle.script_lang.specs.Items.{one_of, two_of, three_of, four_of, two_and_more_of};
+ghost use Rattle.std.specs.Option.{option_copied};
+ghost use Rattle.script_lang.specs.Items.{one_of, two_of, two_or_three_of, three_of, four_of, two_and_more_of};
 
 use tree_words::Words;
 
@@ -20,6 +21,21 @@ pub(crate) fn two(mut words: Words<'_>) -> Option<(&[u8], &[u8])>
     let first = words.next()?;
     let second = one(words)?;
     Some((first, second))
+}
+
+// The two words that are left, and the third one where there is one, if there are two or three.
+pub(crate) fn two_or_three(mut words: Words<'_>) -> Option<(&[u8], &[u8], Option<&[u8]>)>
+    ensures { MatchOption result (two_or_three_of words.entry ≡ None)
+        (λ parts. two_or_three_of words.entry ≡ Some (parts.0.now, parts.1.now, option_copied parts.2)) }
+{
+    let first = words.next()?;
+    let second = words.next()?;
+    let third = words.next();
+    if words.is_empty() {
+        Some((first, second, third))
+    } else {
+        None
+    }
 }
 
 // The three words that are left, if there are three.

@@ -11,7 +11,7 @@ ghost use Rattle.script_lang.specs.declared.items.Line.TheVariants as the_line;
 ghost use Rattle.script_lang.specs.Bounds.{HasBounds};
 ghost use Rattle.script_lang.specs.Lines.{line_limit, line_of};
 ghost use Rattle.script_lang.specs.Texts.{numbered};
-ghost use Rattle.script_lang.specs.Written.{IsAddressed, IsItem, IsRequest, bytes_word, item_text, item_words, mode_text, pick_text, request_words};
+ghost use Rattle.script_lang.specs.Written.{IsAddressed, IsItem, IsRequest, bytes_word, flags_text, item_text, item_words, mode_text, pick_text, request_words};
 
 use crate::items::{Item, Pick};
 use crate::texts::{push_device, push_digest, push_kind, push_numbered, push_path, push_text};
@@ -119,13 +119,32 @@ fn push_match(out: &mut Vec<u8>, command: u32, path: &Path, sum: &Sum) -> Result
     push_digest(out, &sum.digest)
 }
 
+// Puts the word of the flags of a command behind, with a space before it, where a flag is set.
+fn push_flags(out: &mut Vec<u8>, soft: bool, refuse: bool) -> Result<(), Memory>
+    ensures ok { OnOk result (out.new.items ≡ out.old.items ++ flags_text soft refuse) }
+{
+    match (soft, refuse) {
+        (false, false) => Ok(()),
+        (true, false) => push_text(out, b" p"),
+        (false, true) => push_text(out, b" r"),
+        (true, true) => push_text(out, b" pr"),
+    }
+}
+
 // Puts the line of an enter behind.
-fn push_enter(out: &mut Vec<u8>, command: u32, state: u64) -> Result<(), Memory>
-    ensures ok { OnOk result (out.new.items ≡ out.old.items ++ text_of (request_words (the_request.Enter command state))) }
-    ensures valid { IsRequest (the_request.Enter command state) }
+fn push_enter(
+    out: &mut Vec<u8>,
+    command: u32,
+    state: u64,
+    soft: bool,
+    refuse: bool,
+) -> Result<(), Memory>
+    ensures ok { OnOk result (out.new.items ≡ out.old.items ++ text_of (request_words (the_request.Enter command state soft refuse))) }
+    ensures valid { IsRequest (the_request.Enter command state soft refuse) }
 {
     push_numbered(out, b"enter ", command as u64)?;
-    push_numbered(out, b" ", state)
+    push_numbered(out, b" ", state)?;
+    push_flags(out, soft, refuse)
 }
 
 // Puts the line of a clean behind.
@@ -144,7 +163,12 @@ fn push_request(alloc: Global, out: &mut Vec<u8>, request: &Request) -> Result<(
     ensures valid { OnOk result (IsRequest request.now) }
 {
     match request {
-        Request::Enter { command, state } => push_enter(out, *command, *state),
+        Request::Enter {
+            command,
+            state,
+            soft,
+            refuse,
+        } => push_enter(out, *command, *state, *soft, *refuse),
         Request::Leave { command } => push_numbered(out, b"leave ", *command as u64),
         Request::Write {
             command,
