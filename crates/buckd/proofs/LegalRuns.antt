@@ -31,9 +31,9 @@ use Rattle.mat_model.specs.declared.requests.Asked.TheVariants as asked
 use Rattle.mat_model.specs.declared.requests.Request.{Request}
 use Rattle.mat_model.specs.declared.requests.Request.TheVariants as request
 use Rattle.mat_model.specs.Declarations.{declare, declare_tree, new_row}
-use Rattle.mat_model.specs.Gate.{Served, admits, is_live, is_waiting}
+use Rattle.mat_model.specs.Gate.{Passed, Served, gate_of, is_live, pass}
 use Rattle.mat_model.specs.History.{IsInOrder, IsLegalEntry, Point as ModelPoint, answer, answer_done, is_of, opened, may_end, point_of, recorded_as, stepped}
-use Rattle.mat_model.specs.Requests.{at_moment, ensure_row, serve}
+use Rattle.mat_model.specs.Requests.{at_moment, ensure_row, passed, preempted, serve}
 use Rattle.mat_model.specs.Rows.{are_apart, cover, overlaps_row, put_row, used, used_row}
 use Rattle.mat_model.specs.Tickets.{is_open}
 use Rattle.mat_model.specs.Work.{end_make, finish, is_declared}
@@ -108,8 +108,8 @@ number_is point lawful =
 -- a request that is served is answered by the model as the run says
 asked-is : (asked : Request) (point : Point) (said : Reply) → IsLawful point → is_not_yet asked point.book ≡ false →
     answer (model point) 0 (event.Asked (asked_of asked)) said ≡ serve (next point) 0 empty_context (asked_of asked) point.book
-asked-is (request.Enter command state) point said lawful now =
-    ap₂ (λ (n : ℕ) (b : Book). serve n 0 empty_context (asked.Enter command state) b) (number_is point lawful) (sym lawful.book)
+asked-is (request.Enter command state soft refuse) point said lawful now =
+    ap₂ (λ (n : ℕ) (b : Book). serve n 0 empty_context (asked.Enter command state soft refuse) b) (number_is point lawful) (sym lawful.book)
 asked-is (request.Write command path bytes) point said lawful now =
     ap₂ (λ (n : ℕ) (b : Book). serve n 0 empty_context (asked.Write command path (file_sum (digest_of bytes) false)) b)
     (number_is point lawful) (sym lawful.book)
@@ -146,6 +146,12 @@ all-either : (rows : List Row) (b : Bool) (first second : Served) → HasAll row
 all-either rows true first second one other = one
 all-either rows false first second one other = other
 
+-- a command that comes leaves the rows as they are
+all-passed : (number command : ℕ) (through : Passed) (book : Book) → HasAll book.rows (passed number command through book).book.rows
+all-passed number command through book =
+    elim through.took as (λ b. HasAll book.rows (cond {A = Book} b (preempted number command book.live book) book).rows)
+    [ true ↦ all-same book.rows | false ↦ all-same book.rows ]
+
 -- a declaration that is served adds its row
 all-declared : (number command : ℕ) (path : List (List ℕ)) (tree : List Flat) (book : Book) →
     (is_live command book && list_any (overlaps_row path) book.rows) ≡ false →
@@ -164,9 +170,8 @@ all-declared number command path tree book now =
 
 all-served : (asked : Request) (number : ℕ) (book : Book) → is_not_yet asked book ≡ false →
     HasAll book.rows (serve number 0 empty_context (asked_of asked) book).book.rows
-all-served (request.Enter command state) number book now =
-    all-either book.rows (is_live command (at_moment 0 book) || is_waiting command (at_moment 0 book)) _ _ (all-same book.rows)
-    (all-either book.rows (admits state (at_moment 0 book)) _ _ (all-same book.rows) (all-same book.rows))
+all-served (request.Enter command state soft refuse) number book now =
+    all-passed number command (pass command state soft refuse (gate_of (at_moment 0 book))) (at_moment 0 book)
 all-served (request.Write command path bytes) number book now = all-declared number command path (file_tree (digest_of bytes) false) book now
 all-served (request.Declare command path tree) number book now = all-declared number command path tree book now
 all-served (request.Ensure command path) number book now =
@@ -254,9 +259,9 @@ ask-at wanted point at now =
         model p ≡ stepped (model point) (added (event.Asked (asked_of wanted)) served point) served) →
         IsLawful (entered (event.Asked (asked_of wanted)) served point).point →
         HasAll (model point).book.rows served.book.rows → IsLegalAt (entered (event.Asked (asked_of wanted)) served point).point
-    works (request.Enter command state) now served leads lawful has =
-        kept (asked.Enter command state) served leads lawful refl (clean_debris _ (model point).work (model point).book.rows served.book.rows has)
-        (own_after (asked.Enter command state) served.reply (model point).book.rows (model point).work.ways refl at.ways)
+    works (request.Enter command state soft refuse) now served leads lawful has =
+        kept (asked.Enter command state soft refuse) served leads lawful refl (clean_debris _ (model point).work (model point).book.rows served.book.rows has)
+        (own_after (asked.Enter command state soft refuse) served.reply (model point).book.rows (model point).work.ways refl at.ways)
     works (request.Write command path bytes) now served leads lawful has =
         kept (asked.Write command path (file_sum (digest_of bytes) false)) served leads lawful refl
         (clean_debris _ (model point).work (model point).book.rows served.book.rows has)

@@ -26,6 +26,7 @@ book_of d = record {
   state = d.state;
   live = d.live.items;
   waiting = [];
+  soft = [];
   rows = d.rows.items;
   holds = d.holds.items;
   tickets = d.tickets.items;

@@ -1,5 +1,5 @@
 -- What a script is answered, line by line.
-use Rattle.std.specs.Prelude.{ℕ, zero, suc, ◌+◌, ◌-◌, ◌==◌, ◌&&◌, codes, Bool, true, false, not, if◌then◌else◌, List, [], ◌∷◌, ◌++◌, length, count_by, find, Option, Some, None}
+use Rattle.std.specs.Prelude.{ℕ, zero, suc, ◌+◌, ◌-◌, ◌==◌, ◌&&◌, ◌||◌, codes, Bool, true, false, not, if◌then◌else◌, List, [], ◌∷◌, ◌++◌, length, count_by, find, Option, Some, None}
 use Rattle.std.specs.List.{list_any, slice_get}
 use Rattle.std.specs.Option.{option_map_or}
 use Rattle.mat_digest.specs.Digests.{digest_of}
@@ -49,7 +49,7 @@ pub record Point : Type 0 where
 
 -- the book of a daemon that just began
 abbrev pub empty_book : Book
-empty_book = record { first = 0; now = 0; state = None; live = []; waiting = []; rows = []; holds = []; tickets = [] }
+empty_book = record { first = 0; now = 0; state = None; live = []; waiting = []; soft = []; rows = []; holds = []; tickets = [] }
 
 abbrev pub start_point : Point
 start_point = record { book = empty_book; history = [] }
@@ -92,7 +92,7 @@ ask request point = entered (event.Asked request) (serve (next point) 0 empty_co
 
 -- a request as a history keeps it
 abbrev pub asked_of : Request → Asked
-asked_of (request.Enter command state) = asked.Enter command state
+asked_of (request.Enter command state soft refuse) = asked.Enter command state soft refuse
 asked_of (request.Leave command) = asked.Leave command
 asked_of (request.Write command path bytes) = asked.Write command path (file_sum (digest_of bytes) false)
 asked_of (request.Declare command path tree) = asked.Declare command path tree
@@ -226,9 +226,10 @@ told_since before text scene = record {
 abbrev pub told_not_yet : Scene → Told
 told_not_yet scene = record { text = not_yet_text; scene = scene }
 
--- a request that isn't served yet: an enter beside a live command, a write or a declaration over a row, and any but these and an ensure
+-- a request that isn't served yet: an enter that is soft, or that refuses another state, or beside a live command, a write or a declaration over a row,
+-- and any but these and an ensure
 abbrev pub is_not_yet : Request → Book → Bool
-is_not_yet (request.Enter command state) book = not (length book.live == 0)
+is_not_yet (request.Enter command state soft refuse) book = soft || (refuse || not (length book.live == 0))
 is_not_yet (request.Leave command) book = true
 is_not_yet (request.Write command path bytes) book = is_live command book && list_any (overlaps_row path) book.rows
 is_not_yet (request.Declare command path tree) book = is_live command book && list_any (overlaps_row path) book.rows

@@ -16,9 +16,9 @@ ghost use Rattle.mat_model.specs.declared.entries.Task.TheVariants as task;
 ghost use Rattle.mat_model.specs.declared.requests.Asked.TheVariants as asked;
 ghost use Rattle.mat_model.specs.declared.answers.Recorded.TheVariants as recorded;
 ghost use Rattle.mat_model.specs.Declarations.{declare_tree, new_row};
-ghost use Rattle.mat_model.specs.Gate.{is_live, enter};
+ghost use Rattle.mat_model.specs.Gate.{is_live};
 ghost use Rattle.mat_model.specs.OnDisk.{AreOnDisk};
-ghost use Rattle.mat_model.specs.Requests.{ensure, grant};
+ghost use Rattle.mat_model.specs.Requests.{ensure, enter, grant};
 ghost use Rattle.mat_model.specs.Rows.{overlaps_row};
 ghost use Rattle.mat_model.specs.Tickets.{is_open};
 ghost use Rattle.mat_model.specs.Work.{end_make, is_declared};
@@ -209,6 +209,7 @@ impl Daemon {
             state,
             live: Items::of(live),
             waiting: Items::of(Vec::new(alloc)),
+            soft: Items::of(Vec::new(alloc)),
             rows: Items::of(rows),
             holds: Items::of(holds),
             tickets: Items::of(tickets),
@@ -250,7 +251,7 @@ impl Daemon {
         ensures { result ≡ is_not_yet request.now (book_of self.now) }
     {
         match request {
-            Request::Enter { .. } => !self.live.is_empty(),
+            Request::Enter { soft, refuse, .. } => *soft || (*refuse || !self.live.is_empty()),
             Request::Write { command, path, .. } => {
                 self.is_live(*command) && rows::any_overlaps(self.rows.as_slice(), path)
             }
@@ -268,11 +269,12 @@ impl Daemon {
         }
     }
 
-    /// A command comes, where nobody is live.
+    /// A command comes that isn't soft and doesn't refuse to wait, where nobody is live.
     fn enter(&mut self, command: u32, state: u64) -> Result<Reply, Memory>
         requires alone { length self.old.live.items ≡ 0 }
         requires kept { IsKept self.old }
-        ensures served { IfOk result (λ reply. Serves (enter command state (book_of self.old)) self.old self.new reply) }
+        ensures served { IfOk result (λ reply. Serves
+            (enter (length self.old.history.items) command state false false (book_of self.old)) self.old self.new reply) }
         ensures kept { OnOk result (IsKept self.new) }
         ensures tickets { self.new.tickets ≡ self.old.tickets }
     {
@@ -431,9 +433,19 @@ impl Daemon {
         ensures past { (number : ℕ) → IsPast number self.old → OnOk result (IsPast number self.new) }
     {
         match request {
-            Request::Enter { command, state } => {
+            Request::Enter {
+                command,
+                state,
+                soft,
+                refuse,
+            } => {
                 let reply = self.enter(command, state)?;
-                let asked = Asked::Enter { command, state };
+                let asked = Asked::Enter {
+                    command,
+                    state,
+                    soft,
+                    refuse,
+                };
                 enter_asked(&mut self.history, asked, &reply)?;
                 Ok(reply)
             }

@@ -130,6 +130,31 @@ const FAILED_MAKE: (&[u8], &[u8]) = (
           asks 5\n",
 );
 
+/// Commands with flags that come before and beside a live one: they aren't served yet, and change nothing.
+const FLAGGED: (&[u8], &[u8]) = (
+    b"enter 1 7 p\n\
+      write 1 p 61\n\
+      enter 1 7 r\n\
+      enter 1 7 pr\n\
+      write 1 p 61\n\
+      enter 1 7\n\
+      enter 1 7 p\n\
+      enter 2 8 r\n\
+      write 2 p 61\n\
+      write 1 p 61\n\
+      end\n",
+    b"notyet\n\
+      notlive\n\
+      notyet\n\
+      notyet\n\
+      notlive\n\
+      entered\n\
+      notyet\n\
+      notyet\n\
+      notlive\n\
+      declared 4\n",
+);
+
 /// Declarations and writes that aren't served, or not yet, and another digest of no bytes, which is asked for.
 const REFUSED: (&[u8], &[u8]) = (
     b"write 1 p 61\n\
@@ -172,6 +197,7 @@ fn worked_runs(rt: HostRuntime) -> Result<(), Fail> {
         MISSING_THEN_STORED,
         LYING_STORE,
         FAILED_MAKE,
+        FLAGGED,
         REFUSED,
     ];
     for (script, text) in table.iter() {

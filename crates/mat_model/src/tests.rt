@@ -71,6 +71,7 @@ fn book(alloc: Global) -> Result<Book, Fail> {
         state: Some(7),
         live: one(alloc, 1)?,
         waiting: one(alloc, waiter)?,
+        soft: one(alloc, 1)?,
         rows: one(alloc, row)?,
         holds: one(alloc, hold)?,
         tickets: one(alloc, ticket)?,
@@ -83,6 +84,7 @@ fn a_book_is_had_once_more(rt: HostRuntime) -> Result<(), Fail> {
     let twin = book.copy(rt.alloc())?;
     assert_eq!(rt; twin.state, Some(7));
     assert_eq!(rt; twin.live.as_slice(), [1].as_slice());
+    assert_eq!(rt; twin.soft.as_slice(), [1].as_slice());
     for (waiter, other) in twin
         .waiting
         .as_slice()

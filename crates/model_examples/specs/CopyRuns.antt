@@ -84,6 +84,26 @@ lent_run digest =
     ∷ entry_at 9 13 (wiped 12) done
     ∷ []
 
+-- the make of `q` as a copy of `p` has begun, another file is written at `p`, and `p` is asked for
+abbrev pub source_declared_anew : List Entry
+source_declared_anew =
+    copy_begun
+    ++ entry 8 (writes 1 path_p digest_b) (reply.Declared 8)
+    ∷ entry 9 (asks 1 path_p) (reply.Asked 9)
+    ∷ []
+
+-- the same, and then the make of the copy ends
+abbrev pub old_source_returned : List Entry
+old_source_returned = source_declared_anew ++ entry 10 (made 7) stored ∷ []
+
+-- the same, and then the new file is made at `p`
+abbrev pub declared_anew_run : List Entry
+declared_anew_run =
+    old_source_returned
+    ++ entry 11 (makes path_p 8) reply.Started
+    ∷ entry 12 (made 11) stored
+    ∷ []
+
 -- `p` stands, `q` and `r` are copies of it, both are asked for, and the make of `q` begins
 abbrev pub two_copies_begun : Digest → List Entry
 two_copies_begun digest =

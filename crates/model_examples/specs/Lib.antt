@@ -9,3 +9,4 @@ pub mod FailureRuns
 pub mod RoomRuns
 pub mod PreemptionRuns
 pub mod OpeningRuns
+pub mod BrokenRuns

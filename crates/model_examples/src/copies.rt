@@ -5,11 +5,11 @@ ghost use Rattle.mat_model.specs.declared.answers.Answer.TheVariants as answer;
 ghost use Rattle.mat_model.specs.declared.entries.Task.TheVariants as task;
 ghost use Rattle.mat_model.specs.Declarations.{new_row};
 ghost use Rattle.model_examples.specs.FirstRuns.{new_daemon};
-ghost use Rattle.model_examples.specs.CopyRuns.{copy_asked, copy_begun, copy_run, late_copy_asked, late_copy_begun, lent_cleaned, lent_returned, lent_run, self_run, two_copies_begun, two_copies_run};
+ghost use Rattle.model_examples.specs.CopyRuns.{copy_asked, copy_begun, copy_run, declared_anew_run, late_copy_asked, late_copy_begun, lent_cleaned, lent_returned, lent_run, old_source_returned, self_run, source_declared_anew, two_copies_begun, two_copies_run};
 ghost use Rattle.mat_model.specs.History.{IsEach, IsLegal, IsRecorded, book_of, opened, point_of};
 ghost use Rattle.model_examples.specs.RoomRuns.{roomy};
 ghost use Rattle.mat_model.specs.Room.{HasRoom};
-ghost use Rattle.model_examples.specs.Steps.{digest_a, path_p, path_q, path_r};
+ghost use Rattle.model_examples.specs.Steps.{digest_a, digest_b, path_p, path_q, path_r};
 ghost use Rattle.mat_model.specs.WorkState.{copied, first_task, lent_by, store};
 
 /// Copies, as a legal history: `q` is a copy of `p`, and once `p` is made so is `q`. `r` is a copy of `p` too, but another
@@ -144,6 +144,52 @@ pub fn copy_outlives_its_source()
     ensures debris { (digest : Digest) → (point_of new_daemon (lent_run digest)).work.debris ≡ [] }
     ensures task { (digest : Digest) →
         first_task (point_of new_daemon (lent_run digest)).work (book_of new_daemon (lent_run digest)) ≡ None }
+{}
+
+/// A source whose row is declared anew while it is read, as a legal history: the copy is made of the old file, and then the new one is made.
+pub fn declared_anew_run_is_legal()
+    ensures { IsLegal new_daemon declared_anew_run }
+{}
+
+/// As long as the old file is lent it is no debris, and the new one, though it is asked for, can't be made; the job keeps the tree that the source had.
+pub fn lent_source_is_waited_for()
+    ensures jobs { (point_of new_daemon source_declared_anew).work.jobs
+        ≡ record {
+          number = 7;
+          caller = 0;
+          task = task.Make path_q 2;
+          lent = Some (record { path = path_p; stamp = 1; tree = file_tree digest_a false });
+        } ∷ [] }
+    ensures debris { (point_of new_daemon source_declared_anew).work.debris ≡ [] }
+    ensures task { first_task (point_of new_daemon source_declared_anew).work (book_of new_daemon source_declared_anew) ≡ None }
+{}
+
+/// Once the copy is made, the old file is debris that nobody asked to remove, and the make of the new one comes first, which takes it along.
+pub fn new_source_comes_first()
+    ensures debris { (point_of new_daemon old_source_returned).work.debris ≡ record { path = path_p; condemned = false } ∷ [] }
+    ensures task { first_task (point_of new_daemon old_source_returned).work (book_of new_daemon old_source_returned)
+        ≡ Some (task.Make path_p 8) }
+    ensures cleared { (point_of new_daemon declared_anew_run).work.debris ≡ [] }
+    ensures tickets { (book_of new_daemon declared_anew_run).tickets
+        ≡ record {
+          number = 3;
+          command = 1;
+          asked = path_p;
+          answered = Some (record { at = 5; answer = answer.Ready 1 (file_sum digest_a false) });
+        }
+        ∷ record {
+          number = 6;
+          command = 1;
+          asked = path_q;
+          answered = Some (record { at = 10; answer = answer.Ready 2 (file_sum digest_a false) });
+        }
+        ∷ record {
+          number = 9;
+          command = 1;
+          asked = path_p;
+          answered = Some (record { at = 12; answer = answer.Ready 8 (file_sum digest_b false) });
+        }
+        ∷ [] }
 {}
 
 /// Two copies of one source, as a legal history: the second one is made when the first one is.

@@ -2,6 +2,7 @@
 //! Nothing stands on this crate.
 #![tactic(auto)]
 
+pub mod broken;
 pub mod clean;
 pub mod copies;
 pub mod declare;
