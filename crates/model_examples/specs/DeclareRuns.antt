@@ -8,7 +8,7 @@ use Rattle.mat_tree.specs.Trees.{file_sum, file_tree}
 use Rattle.mat_model.specs.declared.answers.Reply.TheVariants as reply
 use Rattle.mat_model.specs.declared.entries.Entry.{Entry}
 use Rattle.model_examples.specs.FirstRuns.{asks, enters, out_path, writes}
-use Rattle.model_examples.specs.Steps.{declares, digest_a, digest_b, done, entry, made, makes, path_p, stored, wiped, wipes}
+use Rattle.model_examples.specs.Steps.{declares, digest_a, digest_b, done, entry, looks, made, makes, path_p, stored, wiped, wipes}
 
 -- a command declares a file at `p` and asks for it, it is made, and then the same is declared again and asked for
 abbrev pub equal_run : List Entry
@@ -118,4 +118,29 @@ below_run digest other =
     below_wiped digest other
     ++ entry 9 (makes path_below 4) reply.Started
     ∷ entry 10 (made 9) stored
+    ∷ []
+
+-- the path `a`
+abbrev pub path_top : List (List ℕ)
+path_top = codes "a" ∷ []
+
+-- a file is made at `a/b`, and another one is written at `a` and asked for
+abbrev pub above_asked : List Entry
+above_asked =
+    entry 0 (enters 1 7) reply.Entered
+    ∷ entry 1 (writes 1 path_above digest_a) (reply.Declared 1)
+    ∷ entry 2 (asks 1 path_above) (reply.Asked 2)
+    ∷ entry 3 (makes path_above 1) reply.Started
+    ∷ entry 4 (made 3) stored
+    ∷ entry 5 (writes 1 path_top digest_b) (reply.Declared 5)
+    ∷ entry 6 (looks 1 path_above) reply.Nothing
+    ∷ entry 7 (asks 1 path_top) (reply.Asked 7)
+    ∷ []
+
+-- the same, and then it is made
+abbrev pub above_run : List Entry
+above_run =
+    above_asked
+    ++ entry 8 (makes path_top 5) reply.Started
+    ∷ entry 9 (made 8) stored
     ∷ []

@@ -6,7 +6,7 @@ ghost use Rattle.mat_model.specs.declared.answers.Answer.TheVariants as answer;
 ghost use Rattle.mat_model.specs.declared.entries.Task.TheVariants as task;
 ghost use Rattle.mat_model.specs.Declarations.{new_row};
 ghost use Rattle.model_examples.specs.FirstRuns.{new_daemon};
-ghost use Rattle.model_examples.specs.DeclareRuns.{below_asked, below_run, below_stale, below_wiped, equal_run, executable_run, folder_asked, folder_path, folder_run, folder_tree, path_above, path_below, path_x, redeclared_run, remade_run, stale_run};
+ghost use Rattle.model_examples.specs.DeclareRuns.{above_asked, above_run, below_asked, below_run, below_stale, below_wiped, equal_run, executable_run, folder_asked, folder_path, folder_run, folder_tree, path_above, path_below, path_top, path_x, redeclared_run, remade_run, stale_run};
 ghost use Rattle.mat_model.specs.History.{IsLegal, book_of, point_of};
 ghost use Rattle.model_examples.specs.Steps.{digest_a, digest_b, path_p};
 ghost use Rattle.mat_model.specs.WorkState.{first_task};
@@ -163,4 +163,35 @@ pub fn row_below_is_ready()
         }
         ∷ [] }
     ensures debris { (digest other : Digest) → (point_of new_daemon (below_run digest other)).work.debris ≡ [] }
+{}
+
+/// A file over a row that stands below its path, as a legal history: the row at `a/b` is gone once `a` is a file, and `a` is made at once.
+pub fn above_run_is_legal()
+    ensures { IsLegal new_daemon above_run }
+{}
+
+/// What stands at `a/b` is debris then, which keeps no make above it from coming first: that takes it along.
+pub fn debris_below_is_taken_along()
+    ensures rows { (book_of new_daemon above_asked).rows ≡ new_row 5 0 path_top (file_tree digest_b false) ∷ [] }
+    ensures debris { (point_of new_daemon above_asked).work.debris ≡ record { path = path_above; condemned = false } ∷ [] }
+    ensures task { first_task (point_of new_daemon above_asked).work (book_of new_daemon above_asked) ≡ Some (task.Make path_top 5) }
+    ensures cleared { (point_of new_daemon above_run).work.debris ≡ [] }
+{}
+
+/// Each ticket was answered with its own row's stamp and file.
+pub fn both_files_were_ready()
+    ensures { (book_of new_daemon above_run).tickets
+        ≡ record {
+          number = 2;
+          command = 1;
+          asked = path_above;
+          answered = Some (record { at = 4; answer = answer.Ready 1 (file_sum digest_a false) });
+        }
+        ∷ record {
+          number = 7;
+          command = 1;
+          asked = path_top;
+          answered = Some (record { at = 9; answer = answer.Ready 5 (file_sum digest_b false) });
+        }
+        ∷ [] }
 {}
