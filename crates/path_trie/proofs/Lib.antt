@@ -1,0 +1,11 @@
+pub mod Around
+pub mod Below
+pub mod Changed
+pub mod Halves
+pub mod Kept
+pub mod Lists
+pub mod Order
+pub mod RootLemmas
+pub mod ShownLemmas
+pub mod Told
+pub mod WalkLemmas

@@ -1,0 +1,71 @@
+-- A map from paths to values, as contracts see it: the list of its entries in order of path, each path once.
+use Rattle.std.specs.Prelude.{ℕ, Bool, true, not, ◌&&◌, List, [], ◌∷◌, ◌++◌, length, map, Option}
+use Rattle.std.specs.List.{filter, find, list_all}
+use Rattle.std.specs.Option.{option_map}
+use Rattle.std.specs.Ordering.{is_lt}
+use Rattle.mat_path.specs.Names.{is_prefix, overlap, path_cmp, same_names}
+use Rattle.path_trie.specs.declared.entry.Entry.{Entry}
+
+-- whether an entry stands at a path
+abbrev pub is_at : {V : Type 0} → List (List ℕ) → Entry V → Bool
+is_at path entry = same_names path entry.path
+
+-- whether an entry stands at another path
+abbrev pub is_elsewhere : {V : Type 0} → List (List ℕ) → Entry V → Bool
+is_elsewhere path entry = not (is_at path entry)
+
+-- whether an entry comes before a path
+abbrev pub is_before : {V : Type 0} → List (List ℕ) → Entry V → Bool
+is_before path entry = is_lt (path_cmp entry.path path)
+
+-- whether an entry comes behind a path
+abbrev pub is_behind : {V : Type 0} → List (List ℕ) → Entry V → Bool
+is_behind path entry = is_lt (path_cmp path entry.path)
+
+-- whether an entry's path is a prefix of a path
+abbrev pub is_above : {V : Type 0} → List (List ℕ) → Entry V → Bool
+is_above path entry = is_prefix entry.path path
+
+-- whether an entry's path overlaps a path
+abbrev pub overlaps : {V : Type 0} → List (List ℕ) → Entry V → Bool
+overlaps path entry = overlap path entry.path
+
+-- whether each element of a list stands so to all those behind it
+abbrev pub ascends_by : {X : Type 0} → (X → X → Bool) → List X → Bool
+ascends_by less [] = true
+ascends_by less (x ∷ xs) = list_all (less x) xs && ascends_by less xs
+
+-- whether an entry's path is less than another's
+abbrev pub is_less : {V : Type 0} → Entry V → Entry V → Bool
+is_less entry other = is_behind entry.path other
+
+-- whether entries stand in order of path, each path once
+abbrev pub ascends : {V : Type 0} → List (Entry V) → Bool
+ascends entries = ascends_by is_less entries
+
+-- the path of an entry, and its value
+abbrev pub path_of : {V : Type 0} → Entry V → List (List ℕ)
+path_of entry = entry.path
+
+abbrev pub value_of : {V : Type 0} → Entry V → V
+value_of entry = entry.value
+
+-- the value at a path, if one stands there
+abbrev pub value_at : {V : Type 0} → List (List ℕ) → List (Entry V) → Option V
+value_at path entries = option_map value_of (find (is_at path) entries)
+
+-- the entries with a value at a path, in place of the one that stood there
+abbrev pub put : {V : Type 0} → List (List ℕ) → V → List (Entry V) → List (Entry V)
+put path value entries = filter (is_before path) entries ++ record { path = path; value = value } ∷ filter (is_behind path) entries
+
+-- the entries without the one at a path
+abbrev pub without : {V : Type 0} → List (List ℕ) → List (Entry V) → List (Entry V)
+without path entries = filter (is_elsewhere path) entries
+
+-- the number of an entry's names, and its value
+abbrev pub counted : {V : Type 0} → Entry V → ℕ × V
+counted entry = (length entry.path, entry.value)
+
+-- the entry at the shortest prefix of a path, which is the first in order of path: its number of names, and its value
+abbrev pub cover_of : {V : Type 0} → List (List ℕ) → List (Entry V) → Option (ℕ × V)
+cover_of path entries = option_map counted (find (is_above path) entries)

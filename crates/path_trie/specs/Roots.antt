@@ -1,0 +1,32 @@
+-- The entries of a trie, from its root.
+use Rattle.std.specs.Prelude.{◌≡◌, Bool, true, List, map, Option, Result, Ok, Err}
+use Rattle.std.specs.Option.{option_map}
+use Rattle.std.specs.List.{list_all}
+use Rattle.mat_path.specs.Names.{same_names}
+use Rattle.path_trie.specs.declared.entry.Entry.{Entry}
+use Rattle.path_trie.specs.declared.node.Node.{Node}
+use Rattle.path_trie.specs.Entries.{ascends, value_of}
+use Rattle.path_trie.specs.Nodes.{below_node, is_well}
+
+-- an entry at its place, from what is kept there
+abbrev pub shown : {V : Type 0} → Entry (Entry V) → Entry V
+shown entry = record { path = entry.path; value = entry.value.value }
+
+-- whether what is kept at a place has the path of the place
+abbrev pub is_placed : {V : Type 0} → Entry (Entry V) → Bool
+is_placed entry = same_names entry.value.path entry.path
+
+-- the entries of a trie
+abbrev pub shown_all : {V : Type 0} → Node (Entry V) → List (Entry V)
+shown_all root = map shown (below_node root)
+
+-- what a trie keeps
+pub record IsTrie {V : Type 0} (root : Node (Entry V)) : Type 0 where
+  pub well : is_well root ≡ true
+  pub placed : list_all is_placed (below_node root) ≡ true
+  pub ascending : ascends (below_node root) ≡ true
+
+-- what a put answers, by the values alone
+abbrev pub value_put : {V : Type 0} → Result (Option (Entry V)) (Entry V) → Result (Option V) V
+value_put (Ok old) = Ok (option_map value_of old)
+value_put (Err entry) = Err entry.value

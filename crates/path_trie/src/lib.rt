@@ -1,0 +1,17 @@
+//! Floor of values: a map from paths to values, kept as a trie of names and seen as the list of its entries.
+#![tactic(auto)]
+
+mod change;
+mod entry;
+mod find;
+mod node;
+mod steps;
+mod trie;
+mod walk;
+
+pub use entry::Entry;
+pub use steps::Steps;
+pub use trie::Trie;
+
+#[cfg(test)]
+mod tests;

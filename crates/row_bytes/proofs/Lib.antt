@@ -1,0 +1,4 @@
+pub mod FieldsBack
+pub mod Fronts
+pub mod NodesBack
+pub mod RowBack
