@@ -1,6 +1,6 @@
 -- What stands at a path below children, and what a change of one of them does.
 use Rattle.mat_path.proofs.SameNames.{same_name-refl, same_name-sym}
-use Rattle.mat_path.proofs.PathLemmas.{name_cmp-refl}
+use Rattle.mat_path.proofs.PathLemmas.{lt_less, name_cmp-refl}
 use Rattle.std.proofs.Common.{◌≡◌, ◌<◌, ◌≤◌, ℕ, zero, suc, Bool, true, false, not, cond, ◌&&◌, List, [], ◌∷◌, ◌++◌, map, length, take, drop, get_or, append-nil, append_assoc, refl, ◌∙◌, sym, ap}
 use Rattle.std.proofs.lemmas.List.{map-append}
 use Rattle.std.proofs.lemmas.List.Concat.{flat_map-append}
@@ -17,7 +17,7 @@ use Rattle.path_trie.specs.Nodes.{put_in, below_node, below_edge, below_all, com
 use Rattle.path_trie.proofs.Lists.{find_first, first_of}
 use Rattle.path_trie.proofs.Told.{below_edge_out}
 use Rattle.path_trie.proofs.Around.{test_around, test_between}
-use Rattle.path_trie.proofs.Halves.{before_other, behind_other, lt_is, greater_is}
+use Rattle.path_trie.proofs.Halves.{before_other, behind_other, greater_is}
 
 -- ---- tests of a path, below a name before it, behind it, and its own
 
@@ -28,7 +28,7 @@ pub at_same : {T : Type 0} (name : List ℕ) (more : List (List ℕ)) (x : Entry
 at_same name more x = ap (λ b. b && same_names more x.path) (same_name-refl name)
 
 pub before_is : {T : Type 0} (name : List ℕ) (more : List (List ℕ)) (n : List ℕ) (x : Entry T) → comes_before name n ≡ true → is_before (name ∷ more) (put_in n x) ≡ true
-before_is name more n x e = ap (λ o. is_lt (ordering_then o (path_cmp x.path more))) (lt_is (name_cmp n name) e)
+before_is name more n x e = ap (λ o. is_lt (ordering_then o (path_cmp x.path more))) (lt_less (name_cmp n name) e)
 
 pub before_not : {T : Type 0} (name : List ℕ) (more : List (List ℕ)) (n : List ℕ) (x : Entry T) → comes_behind name n ≡ true → is_before (name ∷ more) (put_in n x) ≡ false
 before_not name more n x e = ap (λ o. is_lt (ordering_then o (path_cmp x.path more))) (greater_is name n e)
@@ -40,7 +40,7 @@ pub behind_not : {T : Type 0} (name : List ℕ) (more : List (List ℕ)) (n : Li
 behind_not name more n x e = ap (λ o. is_lt (ordering_then o (path_cmp more x.path))) (greater_is n name e)
 
 pub behind_is : {T : Type 0} (name : List ℕ) (more : List (List ℕ)) (n : List ℕ) (x : Entry T) → comes_behind name n ≡ true → is_behind (name ∷ more) (put_in n x) ≡ true
-behind_is name more n x e = ap (λ o. is_lt (ordering_then o (path_cmp more x.path))) (lt_is (name_cmp name n) e)
+behind_is name more n x e = ap (λ o. is_lt (ordering_then o (path_cmp more x.path))) (lt_less (name_cmp name n) e)
 
 pub behind_same : {T : Type 0} (name : List ℕ) (more : List (List ℕ)) (x : Entry T) → is_behind (name ∷ more) (put_in name x) ≡ is_behind more x
 behind_same name more x = ap (λ o. is_lt (ordering_then o (path_cmp more x.path))) (name_cmp-refl name)

@@ -1,4 +1,5 @@
 -- Children of which one is changed, taken out or put in.
+use Rattle.mat_path.proofs.PathLemmas.{lt_less}
 use Rattle.mat_path.specs.Names.{name_cmp}
 use Rattle.std.proofs.Common.{◌≡◌, ◌<◌, ◌≤◌, ℕ, zero, suc, Bool, true, false, not, cond, ◌&&◌, List, [], ◌∷◌, ◌++◌, map, length, take, drop, get_or, set, refl, ◌∙◌, sym, ap, arith}
 use Rattle.std.proofs.lemmas.Bool.{and_from}
@@ -21,7 +22,7 @@ use Rattle.path_trie.specs.Nodes.{put_in, has_some, are_in_order, are_well, belo
 use Rattle.path_trie.proofs.Lists.{all_join, all_left, all_right}
 use Rattle.path_trie.proofs.Order.{asc_around, asc_left, asc_right, asc_without}
 use Rattle.path_trie.proofs.Told.{well_edge_out}
-use Rattle.path_trie.proofs.Halves.{back_is, front_is, lt_is}
+use Rattle.path_trie.proofs.Halves.{back_is, front_is}
 use Rattle.path_trie.proofs.Below.{below_around, put_around, put_between, without_around, without_between}
 use Rattle.path_trie.proofs.Kept.{around, in_order, name_is}
 
@@ -169,7 +170,7 @@ put_added {T} es news k f name more value front back n told is =
     ∙ ap (λ t. put (name ∷ more) value (below_all t)) (take-append-drop k es)
 
 names_trans : (a b c : List ℕ) → comes_behind a b ≡ true → comes_behind b c ≡ true → comes_behind a c ≡ true
-names_trans a b c f g = ap is_lt (nat_list_cmp_total.trans a b c (lt_is (name_cmp a b) f) (lt_is (name_cmp b c) g))
+names_trans a b c f g = ap is_lt (nat_list_cmp_total.trans a b c (lt_less (name_cmp a b) f) (lt_less (name_cmp b c) g))
 
 pub well_added : {T : Type 0} (es news : List (Edge T)) (k : ℕ) (f : Edge T) (name : List ℕ)
     → list_all (comes_before name) (map edge_name (take k es)) ≡ true → list_all (comes_behind name) (map edge_name (drop k es)) ≡ true

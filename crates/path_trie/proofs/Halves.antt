@@ -1,6 +1,6 @@
 -- A search by halves among children in strict order of name.
 use Rattle.mat_path.proofs.SameNames.{same_name-eq, same_name-sym}
-use Rattle.mat_path.proofs.PathLemmas.{name_cmp-refl}
+use Rattle.mat_path.proofs.PathLemmas.{lt_less, name_cmp-refl}
 use Rattle.std.specs.Cmp.{first_so, second_so}
 use Rattle.std.specs.Cmp.Lexicographic.{texts_ties}
 use Rattle.std.proofs.Common.{◌≡◌, ◌<◌, ◌≤◌, ℕ, zero, suc, ◌+◌, Bool, true, false, cond, List, [], ◌∷◌, ◌++◌, map, length, take, drop, get_or, refl, ◌∙◌, sym, ap, arith}
@@ -20,21 +20,16 @@ use Rattle.path_trie.proofs.Lists.{all_below, all_from}
 abbrev pub edge_cmp : {T : Type 0} → List ℕ → Edge T → Ordering
 edge_cmp name edge = name_cmp (edge_name edge) name
 
-pub lt_is : (o : Ordering) → is_lt o ≡ true → o ≡ Less
-lt_is Less h = refl
-lt_is Equal h = cc
-lt_is Greater h = cc
-
 -- two names either way round
 pub greater_is : (a b : List ℕ) → is_lt (name_cmp a b) ≡ true → name_cmp b a ≡ Greater
-greater_is a b h = nat_list_cmp_total.antisymm b a ∙ ap ordering_reverse (lt_is (name_cmp a b) h)
+greater_is a b h = nat_list_cmp_total.antisymm b a ∙ ap ordering_reverse (lt_less (name_cmp a b) h)
 
 -- a name before or behind another is another
 pub before_other : (name n : List ℕ) → comes_before name n ≡ true → same_name name n ≡ false
-before_other name n h = same_name-sym name n ∙ texts_ties n name ∙ ap is_eq (lt_is (name_cmp n name) h)
+before_other name n h = same_name-sym name n ∙ texts_ties n name ∙ ap is_eq (lt_less (name_cmp n name) h)
 
 pub behind_other : (name n : List ℕ) → comes_behind name n ≡ true → same_name name n ≡ false
-behind_other name n h = texts_ties name n ∙ ap is_eq (lt_is (name_cmp name n) h)
+behind_other name n h = texts_ties name n ∙ ap is_eq (lt_less (name_cmp name n) h)
 
 -- what holds of all holds at a place
 pub all_at : {X : Type 0} (p : X → Bool) (xs : List X) (k : ℕ) (d : X) → list_all p xs ≡ true → k < length xs → p (get_or xs k d) ≡ true
@@ -59,11 +54,11 @@ earlier a b name e = by (name_cmp b name) refl
   where
     by : (o : Ordering) → name_cmp b name ≡ o → ordering_index (name_cmp a name) ≤ ordering_index o
     by Less q =
-        let less : name_cmp a name ≡ Less = nat_list_cmp_total.trans a b name (lt_is (name_cmp a b) e) q in
+        let less : name_cmp a name ≡ Less = nat_list_cmp_total.trans a b name (lt_less (name_cmp a b) e) q in
         let none : ordering_index (name_cmp a name) ≡ 0 = ap ordering_index less in omega (arith, none)
     by Equal q =
         let same : b ≡ name = same_name-eq b name (texts_ties b name ∙ ap is_eq q) in
-        let less : name_cmp a name ≡ Less = ap (name_cmp a) (sym same) ∙ lt_is (name_cmp a b) e in
+        let less : name_cmp a name ≡ Less = ap (name_cmp a) (sym same) ∙ lt_less (name_cmp a b) e in
         let none : ordering_index (name_cmp a name) ≡ 0 = ap ordering_index less in omega (arith, none)
     by Greater q = index_small (name_cmp a name)
 

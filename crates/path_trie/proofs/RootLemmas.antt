@@ -1,6 +1,6 @@
 -- The entries of a trie as its root keeps them.
 use Rattle.mat_path.proofs.SameNames.{same_names-refl}
-use Rattle.mat_path.proofs.PathLemmas.{path_cmp_total}
+use Rattle.mat_path.proofs.PathLemmas.{lt_less, path_cmp_total}
 use Rattle.std.proofs.Common.{◌≡◌, ℕ, Bool, true, false, cond, List, [], ◌∷◌, ◌++◌, map, refl, ◌∙◌, sym, ap, subst}
 use Rattle.std.proofs.lemmas.Bool.{and_from}
 use Rattle.std.proofs.lemmas.List.{map-append}
@@ -20,7 +20,6 @@ use Rattle.path_trie.specs.Nodes.{below_node, is_well}
 use Rattle.path_trie.specs.Roots.{is_placed, shown, shown_all, value_put, IsTrie}
 use Rattle.path_trie.proofs.Lists.{all_filter, all_join, filter_in, filter_passes}
 use Rattle.path_trie.proofs.Order.{asc_around, asc_filter}
-use Rattle.path_trie.proofs.Halves.{lt_is}
 
 -- the value of an entry that is kept
 abbrev pub kept_value : {V : Type 0} → Entry V → V
@@ -56,7 +55,7 @@ trie_taken old new path t w e = record {
 }
 
 less_trans : {T : Type 0} (a b c : Entry T) → is_less a b ≡ true → is_less b c ≡ true → is_less a c ≡ true
-less_trans a b c f g = ap is_lt (path_cmp_total.trans a.path b.path c.path (lt_is (path_cmp a.path b.path) f) (lt_is (path_cmp b.path c.path) g))
+less_trans a b c f g = ap is_lt (path_cmp_total.trans a.path b.path c.path (lt_less (path_cmp a.path b.path) f) (lt_less (path_cmp b.path c.path) g))
 
 pub trie_put : {V : Type 0} (old new : Node (Entry V)) (path : List (List ℕ)) (entry : Entry V) → IsTrie old → entry.path ≡ path → is_well new ≡ true
     → below_node new ≡ put path entry (below_node old) → IsTrie new
