@@ -17,7 +17,7 @@ use Rattle.path_trie.specs.declared.node.Node.{Node}
 use Rattle.path_trie.specs.declared.node.Edge.{Edge, out-Edge}
 use Rattle.path_trie.specs.declared.node.Edge.TheViews.{roll-Edge, out-roll-Edge}
 use Rattle.path_trie.specs.declared.node.Edge.TheOpen as layer
-use Rattle.path_trie.specs.Entries.{ascends_by, is_before, is_behind, put, without}
+use Rattle.path_trie.specs.Entries.{are_in_turn, is_before, is_behind, put, without}
 use Rattle.path_trie.specs.Nodes.{put_in, has_some, are_in_order, are_well, below_node, below_edge, below_all, comes_before, comes_behind, edge_name, is_well, is_well_edge}
 use Rattle.path_trie.proofs.Lists.{all_join, all_left, all_right}
 use Rattle.path_trie.proofs.Order.{asc_around, asc_left, asc_right, asc_without}

@@ -30,10 +30,10 @@ is_above path entry = is_prefix entry.path path
 abbrev pub overlaps : {V : Type 0} → List (List ℕ) → Entry V → Bool
 overlaps path entry = overlap path entry.path
 
--- whether each element of a list stands so to all those behind it
-abbrev pub ascends_by : {X : Type 0} → (X → X → Bool) → List X → Bool
-ascends_by less [] = true
-ascends_by less (x ∷ xs) = list_all (less x) xs && ascends_by less xs
+-- whether each element of a list is so to all those behind it
+abbrev pub are_in_turn : {X : Type 0} → (X → X → Bool) → List X → Bool
+are_in_turn less [] = true
+are_in_turn less (x ∷ xs) = list_all (less x) xs && are_in_turn less xs
 
 -- whether an entry's path is less than another's
 abbrev pub is_less : {V : Type 0} → Entry V → Entry V → Bool
@@ -41,7 +41,7 @@ is_less entry other = is_behind entry.path other
 
 -- whether entries stand in order of path, each path once
 abbrev pub ascends : {V : Type 0} → List (Entry V) → Bool
-ascends entries = ascends_by is_less entries
+ascends entries = are_in_turn is_less entries
 
 -- the path of an entry, and its value
 abbrev pub path_of : {V : Type 0} → Entry V → List (List ℕ)

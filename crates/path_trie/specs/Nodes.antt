@@ -4,7 +4,7 @@ use Rattle.std.specs.List.{flat_map, list_all}
 use Rattle.std.specs.Ordering.{is_lt}
 use Rattle.mat_path.specs.Names.{name_cmp}
 use Rattle.path_trie.specs.declared.entry.Entry.{Entry}
-use Rattle.path_trie.specs.Entries.{ascends_by}
+use Rattle.path_trie.specs.Entries.{are_in_turn}
 use Rattle.path_trie.specs.declared.node.Node.{Node}
 use Rattle.path_trie.specs.declared.node.Edge.{Edge, out-Edge}
 use Rattle.path_trie.specs.declared.node.Edge.TheOpen as layer
@@ -45,7 +45,7 @@ comes_before name other = is_lt (name_cmp other name)
 
 -- whether names stand in strict order
 abbrev pub are_in_order : List (List ℕ) → Bool
-are_in_order names = ascends_by comes_behind names
+are_in_order names = are_in_turn comes_behind names
 
 abbrev pub told_entries : {T : Type 0} → ToldEdge T → List (Entry T)
 told_entries edge = edge.entries
