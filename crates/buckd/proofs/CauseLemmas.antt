@@ -19,7 +19,7 @@ use Rattle.buckd.specs.Causes.{AreCaused, event_of, IsCaused}
 use Rattle.buckd.specs.Lines.{line_of}
 use Rattle.buckd.specs.Replay.{IsAt, IsCausedBy, run_at}
 use Rattle.buckd.specs.Run.{Point, Scene, ask, asked_of, entry_at, is_not_yet, next, empty_context, start, tell, tell_asked, tell_item, tell_lines, told_not_yet}
-use Rattle.buckd.proofs.LegalRuns.{start-at, tell_lines-at}
+use Rattle.buckd.proofs.FollowingRuns.{start-at, tell_lines-at}
 use Rattle.buckd.proofs.MakeCauses.{Adds, adds-none, adds-push, drain-adds, EndsSo}
 use Rattle.buckd.proofs.RunLemmas.{tell_scene}
 

@@ -17,7 +17,8 @@ use Rattle.mat_model.specs.declared.entries.Outcome.TheVariants as outcome
 use Rattle.mat_model.specs.declared.entries.Task.{Task}
 use Rattle.mat_model.specs.declared.entries.Task.TheVariants as task
 use Rattle.mat_model.specs.Books.{IsBook, IsSummed}
-use Rattle.mat_model.specs.History.{may_end, next_number, point_of as model_point}
+use Rattle.mat_model.specs.History.{next_number, point_of as model_point}
+use Rattle.mat_model.specs.Legal.{may_end}
 use Rattle.mat_model.specs.Rows.{covers, is_at_path}
 use Rattle.mat_model.specs.Tickets.{answered_by, is_open, waits_for, with_answer}
 use Rattle.mat_model.specs.Work.{end_make}
@@ -33,10 +34,10 @@ use Rattle.write_plan.specs.declared.act.Act.{Act}
 use Rattle.buckd.specs.declared.daemon.Daemon.{Daemon}
 use Rattle.buckd.specs.Daemon.{point_of, scene_of}
 use Rattle.buckd.specs.MakeAnswers.{answer_of, tickets_answered}
-use Rattle.buckd.specs.Legal.{IsLawful, IsLegalAt, new_daemon}
+use Rattle.buckd.specs.Following.{IsLawful, IsFollowingAt, new_daemon}
 use Rattle.buckd.specs.Making.{outcome_of}
 use Rattle.buckd.specs.Run.{Point, Scene, acts_of, begin, drain, empty_book, idle, made, made_if, make_first, makes, next}
-use Rattle.buckd.proofs.LegalRuns.{make_first-at, outcome_may}
+use Rattle.buckd.proofs.FollowingRuns.{make_first-at, outcome_may}
 use Rattle.buckd.proofs.MadeLemmas.{ended-book}
 
 -- ---- counts
@@ -202,7 +203,7 @@ first-fewer count scene lawful few =
 -- ---- a drain
 
 -- no ticket is open after as many makes as were open, or more
-pub makes-drained : (count : ℕ) (scene : Scene) → IsLegalAt scene.point → count_by is_open scene.point.book.tickets ≤ count →
+pub makes-drained : (count : ℕ) (scene : Scene) → IsFollowingAt scene.point → count_by is_open scene.point.book.tickets ≤ count →
     list_any is_open (makes count scene).point.book.tickets ≡ false
 makes-drained zero scene at few =
     list_any_none is_open scene.point.book.tickets (none_counted is_open scene.point.book.tickets (omega (arith, few)))
@@ -210,9 +211,9 @@ makes-drained (suc count) scene at few =
     makes-drained count (make_first scene) (make_first-at scene at) (first-fewer count scene at.lawful (omega (arith, few)))
 
 -- no ticket is open after a drain
-pub drain-drained : (scene : Scene) → IsLegalAt scene.point → list_any is_open (drain scene).point.book.tickets ≡ false
+pub drain-drained : (scene : Scene) → IsFollowingAt scene.point → list_any is_open (drain scene).point.book.tickets ≡ false
 drain-drained scene at = makes-drained (count_by is_open scene.point.book.tickets) scene at (omega arith)
 
 -- and so of a daemon that drained
-pub daemon-drained : (d0 d1 : Daemon) → scene_of d1 ≡ drain (scene_of d0) → IsLegalAt (point_of d0) → list_any is_open d1.tickets.items ≡ false
+pub daemon-drained : (d0 d1 : Daemon) → scene_of d1 ≡ drain (scene_of d0) → IsFollowingAt (point_of d0) → list_any is_open d1.tickets.items ≡ false
 daemon-drained d0 d1 scene at = ap (λ (s : Scene). list_any is_open s.point.book.tickets) scene ∙ drain-drained (scene_of d0) at

@@ -41,10 +41,10 @@ use Rattle.buckd.specs.Making.{IsAtHand, is_write, shown_by}
 use Rattle.buckd.specs.Run.{Point, Scene, ask, asked_of, asked_scene, drain, entry_at, idle, is_held, is_not_yet, is_write_asked, is_write_entry, make_first, makes, next, empty_context, tell, tell_asked, tell_item, told_not_yet, told_since}
 use Rattle.buckd.specs.Shows.{IsCovered}
 use Rattle.buckd.specs.Sound.{AreSupplied, AreSynced, kept_by, is_answered_before, IsKept, IsKeptWith, IsPast, IsReady, IsSound, IsSupplied, KeepsRows}
-use Rattle.buckd.specs.Legal.{IsLegalAt}
+use Rattle.buckd.specs.Following.{IsFollowingAt}
 use Rattle.buckd.specs.Texts.{answer_lines, said_line}
 use Rattle.buckd.proofs.Past.{past-answer_lines, past-more}
-use Rattle.buckd.proofs.LegalRuns.{tell-at}
+use Rattle.buckd.proofs.FollowingRuns.{tell-at}
 use Rattle.buckd.proofs.Seen.{listed-there}
 use Rattle.buckd.proofs.Standing.{covered-map, covered-put_row, held-map, held-put_row, synced-map, synced-put_row}
 use Rattle.buckd.proofs.Stepping.{make_first-none, makes-none, makes-suc}
@@ -287,5 +287,5 @@ pub sound-told : (read : Line) (old new : Daemon) (first last : List ℕ) → Is
     IsReady new → IsSound new
 sound-told read old new first last sound told ready = record {
   ready = ready;
-  legal = subst (λ (scene : Scene). IsLegalAt scene.point) (sym told.scene) (tell-at read (scene_of old) sound.legal);
+  follows = subst (λ (scene : Scene). IsFollowingAt scene.point) (sym told.scene) (tell-at read (scene_of old) sound.follows);
 }

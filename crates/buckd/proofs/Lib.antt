@@ -21,5 +21,5 @@ pub mod Kept
 pub mod StoreLemmas
 pub mod PartLemmas
 pub mod MadeLemmas
-pub mod LegalRuns
+pub mod FollowingRuns
 pub mod Drained

@@ -18,7 +18,7 @@ use Rattle.buckd.specs.Daemon.{scene_of}
 use Rattle.buckd.specs.Lines.{before_end, has_end, lines_of, script_lines, whole_lines}
 use Rattle.buckd.specs.Run.{Scene}
 use Rattle.buckd.specs.Streams.{TakesWithin, Feeds, FeedsLast, Flows, Follows, IsSoundAfter, Served, Stands, answered, fed_failed}
-use Rattle.buckd.specs.Replay.{Answers, HasRun, IsAt, IsFinished, IsHeldBy, IsHome, IsLegalWhere, IsSoundAtEnd, IsWithin, Leaves, LeavesAt, Ran, RanOver, Replays, ReplaysBytes, end_of, has_run, input_failed, is_lost, is_sink_fault, is_source_fault, is_status, output_failed, status_of}
+use Rattle.buckd.specs.Replay.{Answers, HasRun, IsAt, IsFinished, IsHeldBy, IsHome, IsFollowingWhere, IsSoundAtEnd, IsWithin, Leaves, LeavesAt, Ran, RanOver, Replays, ReplaysBytes, end_of, has_run, input_failed, is_lost, is_sink_fault, is_source_fault, is_status, output_failed, status_of}
 use Rattle.buckd.proofs.CauseLemmas.{run-cause}
 use Rattle.buckd.proofs.LineLemmas.{script_all, script_cut, script_ended, script_front}
 use Rattle.buckd.proofs.RunLemmas.{Longer, broke_longer, flows_whole, is_going, longer_same, part_longer, served_broke, served_flows, served_same}
@@ -399,7 +399,7 @@ replays limit None after before now s e ended is leaves out ran = tt
 replays limit (Some bytes) after before now s e ended is leaves out ran = replays_bytes limit bytes after before now s e ended is leaves out ran
 
 has_left : (ended : Ended) (scene : Scene) → has_run ended.status ≡ true → HasRun scene ended → Leaves ended
-has_left ended scene is has = record { run = has.run ∙ sym is; disk = has.disk ∙ sym is; held = has.held; home = has.home; legal = has.legal }
+has_left ended scene is has = record { run = has.run ∙ sym is; disk = has.disk ∙ sym is; held = has.held; home = has.home; follows = has.follows }
 
 pub leaves_by : (e : Ending) (scene : Scene) (ended : Ended) → ended.status ≡ status_of e → LeavesAt e scene ended → Leaves ended
 leaves_by ending.End scene ended is leaves = has_left ended scene (ap has_run is) leaves
@@ -408,7 +408,7 @@ leaves_by ending.NoMemory scene ended is leaves = record {
   disk = ap is_some leaves.disk ∙ sym (ap has_run is);
   held = subst (λ (run : Option Run). IsHeldBy run ended.disk) (sym leaves.run) tt;
   home = subst IsHome (sym leaves.disk) tt;
-  legal = subst IsLegalWhere (sym leaves.run) tt;
+  follows = subst IsFollowingWhere (sym leaves.run) tt;
 }
 leaves_by ending.SourceFault scene ended is leaves = has_left ended scene (ap has_run is) leaves
 leaves_by ending.SinkFault scene ended is leaves = has_left ended scene (ap has_run is) leaves

@@ -2,7 +2,7 @@ pub mod Lines
 pub mod Texts
 pub mod Run
 pub mod Daemon
-pub mod Legal
+pub mod Following
 pub mod Sound
 pub mod Making
 pub mod Shows

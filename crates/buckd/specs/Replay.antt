@@ -18,7 +18,7 @@ use Rattle.buckd.specs.declared.session.Fed.TheVariants as fed
 use Rattle.buckd.specs.declared.session.Session.{Session}
 use Rattle.mat_path.specs.Names.{same_name}
 use Rattle.buckd.specs.Causes.{AreCaused}
-use Rattle.buckd.specs.Legal.{IsLegalRun}
+use Rattle.buckd.specs.Following.{IsFollowingRun}
 use Rattle.buckd.specs.Lines.{before_end, has_end, script_lines, whole_lines}
 use Rattle.buckd.specs.Making.{shown_by}
 use Rattle.buckd.specs.Run.{Point, Scene, start, tell_lines}
@@ -149,9 +149,9 @@ IsHeldBy run disk =
 abbrev pub IsHome : Option MemDisk → Type 0
 IsHome disk = IfSome disk (λ (d : MemDisk). disk_loans d ≡ [])
 
--- a run that is there has a legal history, and the book of it
-abbrev pub IsLegalWhere : Option Run → Type 0
-IsLegalWhere run = IfSome run IsLegalRun
+-- each entry of the history of a run that is there follows, and the book is the book of it
+abbrev pub IsFollowingWhere : Option Run → Type 0
+IsFollowingWhere run = IfSome run IsFollowingRun
 
 -- a run that led to a scene is there, and its disk
 pub record HasRun (scene : Scene) (ended : Ended) : Type 0 where
@@ -160,7 +160,7 @@ pub record HasRun (scene : Scene) (ended : Ended) : Type 0 where
   pub at : IsAt scene ended
   pub held : IsHeldBy ended.run ended.disk
   pub home : IsHome ended.disk
-  pub legal : IsLegalWhere ended.run
+  pub follows : IsFollowingWhere ended.run
 
 -- no run is there, and no disk
 pub record HasNone (ended : Ended) : Type 0 where
@@ -182,14 +182,14 @@ has_run status = (status == 0) || (status == 3) || (status == 4) || (status == 5
 abbrev pub is_status : ℕ → Bool
 is_status status = has_run status || (status == 1)
 
--- the run and the disk are there where the status has them, the history is legal and the book is the book of it, and
+-- the run and the disk are there where the status has them, each entry of the history follows and the book is the book of it, and
 -- the disk has the tree of each row that the book says stands, synced, and is lent nowhere
 pub record Leaves (ended : Ended) : Type 0 where
   pub run : is_some ended.run ≡ has_run ended.status
   pub disk : is_some ended.disk ≡ has_run ended.status
   pub held : IsHeldBy ended.run ended.disk
   pub home : IsHome ended.disk
-  pub legal : IsLegalWhere ended.run
+  pub follows : IsFollowingWhere ended.run
 
 -- a run that is there has a history in which each make that failed did so for what the store held after some of these lines
 abbrev pub IsCausedBy : List (List ℕ) → Option Run → Type 0

@@ -16,7 +16,7 @@ use Rattle.region_port.specs.Disks.{disk_content, disk_loans, disk_rough}
 use Rattle.write_plan.specs.declared.method.Method.{Method}
 use Rattle.buckd.specs.declared.daemon.Daemon.{Daemon}
 use Rattle.buckd.specs.Daemon.{point_of}
-use Rattle.buckd.specs.Legal.{IsLegalAt}
+use Rattle.buckd.specs.Following.{IsFollowingAt}
 use Rattle.buckd.specs.Making.{IsAtHand, is_write}
 use Rattle.buckd.specs.Run.{is_held}
 use Rattle.buckd.specs.Shows.{IsCovered}
@@ -81,10 +81,10 @@ pub record IsReady (d : Daemon) : Type 0 where
   pub kept : IsKept d
   pub past : IsPast (length d.history.items) d
 
--- a daemon between two lines: its history is legal, and its book is the book of it
+-- a daemon between two lines: each entry of its history follows, and its book is the book of it
 pub record IsSound (d : Daemon) : Type 0 where
   pub ready : IsReady d
-  pub legal : IsLegalAt (point_of d)
+  pub follows : IsFollowingAt (point_of d)
 
 -- nothing changed but the holds, the tickets, the history and the store
 pub record KeepsRows (old new : Daemon) : Type 0 where

@@ -148,7 +148,7 @@ fn enter_asked(history: &mut Vec<Entry>, asked: Asked, reply: &Reply) -> Result<
 
 impl Daemon {
     ghost use Rattle.buckd.specs.Daemon.{book_of, point_of, scene_of, task_for, Makes, Serves, Steps, Tells};
-    ghost use Rattle.buckd.specs.Legal.{IsLegalAt, IsLegalRun};
+    ghost use Rattle.buckd.specs.Following.{IsFollowingAt, IsFollowingRun};
     ghost use Rattle.buckd.specs.Run.{acts_of, asked_of, declared_tree, drain, idle, is_not_yet, made, make_first, start, start_point, tell, tell_item};
     ghost use Rattle.script_lang.specs.declared.items.Item.TheVariants as item;
     ghost use Rattle.buckd.specs.Sound.{kept_by, AreSynced, IsKept, IsKeptWith, IsPast, IsReady, IsSound, KeepsBook, KeepsDisk, KeepsRows};
@@ -174,7 +174,7 @@ impl Daemon {
         }
     }
 
-    /// A daemon over an empty disk and an empty store, at the start of a legal history.
+    /// A daemon over an empty disk and an empty store, at the start of a history.
     pub fn new(alloc: Global) -> Daemon
         ensures start { scene_of result ≡ start }
         ensures sound { IsSound result }
@@ -227,7 +227,7 @@ impl Daemon {
         ensures synced { AreSynced (disk_rough result.1) result.0.book.rows }
         ensures free { disk_loans result.1 ≡ [] }
         ensures shown { shown_by (disk_content result.1) ≡ (scene_of self).disk }
-        ensures legal { IsLegalRun result.0 }
+        ensures follows { IsFollowingRun result.0 }
     {
         self.into_run(alloc)
     }
@@ -574,7 +574,7 @@ impl Daemon {
         requires { IsReady self.old }
         ensures scene { OnOk result (scene_of self.new ≡ drain (scene_of self.old)) }
         ensures sound { OnOk result (IsReady self.new) }
-        ensures drained { OnOk result (IsLegalAt (point_of self.old) → list_any is_open self.new.tickets.items ≡ false) }
+        ensures drained { OnOk result (IsFollowingAt (point_of self.old) → list_any is_open self.new.tickets.items ≡ false) }
     {
         let count = tickets::open_count(self.tickets.as_slice());
         for done in 0..count {
@@ -677,7 +677,7 @@ impl Daemon {
         }
     }
 
-    /// Answers a line. The history stays legal.
+    /// Answers a line. The history goes on as its rules have it.
     pub fn tell(&mut self, line: Line, out: &mut Vec<u8>) -> Result<(), Memory>
         requires bounds { HasLineBounds 1 line }
         requires sound { IsSound self.old }

@@ -1,7 +1,7 @@
--- What a history means: the book, the work state and the stored rows after each entry, and the rules that make it a legal one.
+-- What a history means: the book, the work state and the stored rows after each entry.
 use Rattle.mat_model.specs.Openings.{kept_at_opening, opening_debris, recovered}
 use Rattle.mat_model.specs.declared.opening.Opening.{Opening}
-use Rattle.std.specs.Prelude.{◌≡◌, ◌⊎◌, ℕ, ◌+◌, ◌-◌, ◌^◌, ◌<◌, ◌≤◌, ◌==◌, ◌&&◌, Bool, true, false, not, if◌then◌else◌, List, [], ◌∷◌, ◌++◌, length, count_by, map, Option, Some, None}
+use Rattle.std.specs.Prelude.{ℕ, ◌+◌, ◌&&◌, Bool, true, false, if◌then◌else◌, List, [], ◌∷◌, ◌++◌, length, map, Option, Some, None}
 use Rattle.std.specs.List.{list_any}
 use Rattle.mat_tree.specs.declared.flat.Flat.{Flat}
 use Rattle.mat_model.specs.declared.answers.Device.{Device}
@@ -16,9 +16,7 @@ use Rattle.mat_model.specs.declared.entries.Entry.{Entry}
 use Rattle.mat_model.specs.declared.entries.Event.{Event}
 use Rattle.mat_model.specs.declared.entries.Event.TheVariants as event
 use Rattle.mat_model.specs.declared.entries.Outcome.{Outcome}
-use Rattle.mat_model.specs.declared.entries.Outcome.TheVariants as outcome
 use Rattle.mat_model.specs.declared.entries.Task.{Task}
-use Rattle.mat_model.specs.declared.entries.Task.TheVariants as task
 use Rattle.mat_model.specs.declared.requests.Asked.{Asked}
 use Rattle.mat_model.specs.declared.requests.Asked.TheVariants as asked
 use Rattle.mat_model.specs.Declarations.{declared_at}
@@ -26,7 +24,7 @@ use Rattle.mat_model.specs.Gate.{Served}
 use Rattle.mat_model.specs.Kept.{KeptRow, due, kept_asked, kept_begun, kept_done, may_fail, overlaps_kept}
 use Rattle.mat_model.specs.Requests.{RequestContext, at_moment, serve}
 use Rattle.mat_model.specs.Work.{finish, refuse}
-use Rattle.mat_model.specs.WorkState.{Job, WorkState, ended, first_task, idle_work, path_of_task, refused, running, started, strays, work_asked}
+use Rattle.mat_model.specs.WorkState.{Job, WorkState, ended, idle_work, path_of_task, refused, running, started, strays, work_asked}
 
 -- what a history has led to: its entries so far, the book, the work state, the stored rows, and how many nodes were declared
 pub record Point : Type 0 where
@@ -183,107 +181,3 @@ point_of opening history = after_all (opened opening) history
 
 abbrev pub book_of : Opening → List Entry → Book
 book_of opening history = (point_of opening history).book
-
--- ---- legal histories
-
--- whether an entry is a caller's
-abbrev pub is_of : ℕ → Entry → Bool
-is_of caller entry = entry.by.caller == caller
-
--- whether a job may end so: a make doesn't end wiped, and a wipe ends wiped, with a fault or for want of memory
-abbrev pub may_end : Task → Outcome → Bool
-may_end (task.Make path stamp) outcome.Wiped = false
-may_end (task.Make path stamp) _ = true
-may_end (task.Wipe path) outcome.Wiped = true
-may_end (task.Wipe path) (outcome.Fault note) = true
-may_end (task.Wipe path) outcome.NoMemory = true
-may_end (task.Wipe path) _ = false
-
--- a job that runs at a point may end so for a caller: it has this number, the caller began it, and its kind of task has this outcome
-pub record IsEndOf (point : Point) (caller number : ℕ) (out : Outcome) : Type 0 where
-  pub job : Job
-  pub runs : running number point.work ≡ Some job
-  pub owned : job.caller ≡ caller
-  pub ends : may_end job.task out ≡ true
-
--- work comes in order: a begin takes the task that comes first, and a done ends a job that runs, by its own caller and as it may end
-abbrev pub IsInOrder : Point → ℕ → Event → Type 0
-IsInOrder point caller (event.Asked request) = Unit {0}
-IsInOrder point caller (event.Begin begun) = first_task point.work point.book ≡ Some begun
-IsInOrder point caller (event.Done number out) = IsEndOf point caller number out
-
--- an entry is legal at a point
-pub record IsLegalEntry (point : Point) (entry : Entry) : Type 0 where
-  -- its reply is the one of the definitions
-  pub reply : entry.reply ≡ (answer point entry.now entry.event entry.reply).reply
-  -- its moment is the book's afterwards
-  pub moment : entry.now ≡ (after point entry).book.now
-  -- its number is the number of its caller's earlier entries
-  pub number : entry.by.number ≡ count_by (is_of entry.by.caller) point.history
-  -- work comes in order
-  pub order : IsInOrder point entry.by.caller entry.event
-
--- a rule holds of each entry at its point
-abbrev pub IsEach : (Point → Entry → Type 0) → Point → List Entry → Type 0
-IsEach Rule point [] = Unit {0}
-IsEach Rule point (entry ∷ entries) = Rule point entry × IsEach Rule (after point entry) entries
-
--- a history is legal from an opening
-abbrev pub IsLegal : Opening → List Entry → Type 0
-IsLegal opening history = IsEach IsLegalEntry (opened opening) history
-
--- ---- what the state store adds
-
--- whether nothing was recorded
-abbrev pub is_nothing : Recorded → Bool
-is_nothing recorded.Kept = false
-is_nothing (recorded.NotKept note) = false
-is_nothing recorded.NoMemory = false
-is_nothing recorded.Nothing = true
-
--- whether a job made its row
-abbrev pub is_made : Event → Bool
-is_made (event.Done job outcome.Made) = true
-is_made _ = false
-
--- what counts is recorded exactly where a row was made
-abbrev pub IsRecordedAs : Event → Reply → Type 0
-IsRecordedAs happened (reply.Fresh how) = is_nothing how ≡ not (is_made happened)
-IsRecordedAs happened _ = Unit {0}
-
-abbrev pub IsRecorded : Point → Entry → Type 0
-IsRecorded point entry = IsRecordedAs entry.event entry.reply
-
--- the note of the state store that a reply has, if it has one
-abbrev pub note_recorded : Recorded → Option FaultNote
-note_recorded recorded.Kept = None
-note_recorded (recorded.NotKept note) = Some note
-note_recorded recorded.NoMemory = None
-note_recorded recorded.Nothing = None
-
-abbrev pub note_of : Reply → Option FaultNote
-note_of (reply.Fault note) = Some note
-note_of (reply.Refused note) = Some note
-note_of (reply.Fresh how) = note_recorded how
-note_of _ = None
-
--- the count behind a note, if there is one
-abbrev pub behind : ℕ → Option FaultNote → ℕ
-behind count None = count
-behind count (Some note) = note.after
-
--- the store's count behind the notes of some entries, from one on
-abbrev pub count_behind : ℕ → List Entry → ℕ
-count_behind count [] = count
-count_behind count (entry ∷ entries) = count_behind (behind count (note_of entry.reply)) entries
-
--- a note is of the state store, its count rose, or stands at the last number that 64 bits hold, and it begins no earlier than a count
-abbrev pub IsNoteFrom : ℕ → Option FaultNote → Type 0
-IsNoteFrom count None = Unit {0}
-IsNoteFrom count (Some note) =
-    (is_keeper note.device ≡ true) × (count ≤ note.before)
-    × ((note.before < note.after) ⊎ ((note.before ≡ 2 ^ 64 - 1) × (note.after ≡ 2 ^ 64 - 1)))
-
--- the notes of the state store don't overlap
-abbrev pub IsNoteApart : Point → Entry → Type 0
-IsNoteApart point entry = IsNoteFrom (count_behind 0 point.history) (note_of entry.reply)

@@ -12,4 +12,5 @@ pub mod Openings
 pub mod History
 pub mod Drained
 pub mod Room
+pub mod Legal
 pub mod OnDisk

@@ -22,6 +22,11 @@ use Rattle.mat_model.specs.Rows.{is_at_path}
 use Rattle.mat_model.specs.Tickets.{is_open}
 use Rattle.mat_model.specs.WorkState.{WayOf, is_held_way, way_of, ways_after}
 
+-- the greatest limits that a daemon may have
+abbrev pub greatest_limits : Limits
+greatest_limits =
+    record { history = 1000000; nodes = 1000000; rows = 200000; held = 268435456; asked = 200000; holds = 400000 }
+
 -- how many entries are spent: those that are there, one for each running job, and one for each live or waiting command
 abbrev pub spent : Point → ℕ
 spent point = length point.history + length point.work.jobs + length point.book.live + length point.book.waiting

@@ -7,7 +7,7 @@ use Rattle.mat_model.specs.declared.answers.Reply.{Reply}
 use Rattle.mat_model.specs.declared.answers.Reply.TheVariants as reply
 use Rattle.mat_model.specs.declared.entries.Entry.{Entry}
 use Rattle.mat_model.specs.declared.requests.CleanMode.TheVariants as mode
-use Rattle.model_examples.specs.FirstRuns.{asks, empty_book, enters, writes}
+use Rattle.model_examples.specs.FirstRuns.{asks, enters, writes}
 use Rattle.mat_model.specs.declared.opening.Opening.{Opening}
 use Rattle.model_examples.specs.Steps.{cleans, done, entry, entry_at, leaves, made, makes, path_p, path_q, stored, wiped, wipes}
 

@@ -75,7 +75,7 @@ abbrev pub made_run : Digest → List Entry
 made_run digest =
     asked_run digest
     ++ an_entry 2 0 (event.Begin (task.Make file_path 1)) reply.Started
-    ∷ an_entry 2 1 (event.Done 3 outcome.Made) (reply.Fresh recorded.Nothing)
+    ∷ an_entry 2 1 (event.Done 3 outcome.Made) (reply.Fresh recorded.Kept)
     ∷ []
 
 -- the same, and then it is asked for again, its folder is asked for, and a command that isn't live writes

@@ -5,7 +5,7 @@ use Rattle.mat_model.specs.declared.answers.Recorded.TheVariants as recorded
 use Rattle.mat_model.specs.declared.answers.Reply.TheVariants as reply
 use Rattle.mat_model.specs.declared.book.Row.{Row}
 use Rattle.mat_model.specs.declared.entries.Entry.{Entry}
-use Rattle.model_examples.specs.FirstRuns.{asks, empty_book, enters, writes}
+use Rattle.model_examples.specs.FirstRuns.{asks, enters, writes}
 use Rattle.mat_model.specs.declared.opening.Opening.{Opening}
 use Rattle.model_examples.specs.Steps.{digest_a, digest_b, entry, flushes, made, makes, path_p, removes, store_note}
 

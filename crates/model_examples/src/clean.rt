@@ -1,10 +1,12 @@
-ghost use Rattle.std.specs.Prelude.{◌≡◌, [], ◌∷◌, false, true, None, Some};
+ghost use Rattle.mat_model.specs.Room.{greatest_limits};
+ghost use Rattle.std.specs.Prelude.{◌≡◌, [], ◌∷◌, false, true, None, Some, nat_le};
 ghost use Rattle.mat_digest.specs.declared.digest.Digest.{Digest};
-ghost use Rattle.mat_tree.specs.Trees.{file_sum, file_tree};
+ghost use Rattle.mat_tree.specs.Trees.{file_sum, file_tree, greatest_file};
 ghost use Rattle.mat_model.specs.declared.entries.Task.TheVariants as task;
 ghost use Rattle.model_examples.specs.FirstRuns.{new_daemon};
 ghost use Rattle.model_examples.specs.CleanRuns.{cleaned_run, condemned_run, mixed_clean, mixed_daemon, mixed_run, spared_run, standing_run, stray_daemon, stray_run, stray_wiped_run, wiped_run};
-ghost use Rattle.mat_model.specs.History.{IsLegal, book_of, point_of};
+ghost use Rattle.mat_model.specs.History.{book_of, point_of};
+ghost use Rattle.mat_model.specs.Legal.{IsLegal};
 ghost use Rattle.model_examples.specs.Steps.{path_p, path_q};
 ghost use Rattle.mat_model.specs.WorkState.{first_task};
 
@@ -13,7 +15,7 @@ ghost use Rattle.mat_model.specs.WorkState.{first_task};
 /// dry clean with cutoff 6 lists the row with the bytes of its files, and a real one lists the same and takes it. Then the
 /// part of the disk is wiped.
 pub fn clean_is_legal()
-    ensures { (digest : Digest) → IsLegal new_daemon (wiped_run digest) }
+    ensures { (digest : Digest) → nat_le digest.size greatest_file ≡ true → IsLegal greatest_limits new_daemon (wiped_run digest) }
 {}
 
 /// The cleans that spare the row, the dry one too, leave it as it was made, and stored with its last use.
@@ -63,7 +65,7 @@ pub fn held_row_is_held()
 /// A stray, as a legal history: a real clean doesn't list it, one of all does, a second one of all doesn't list it again,
 /// and it is wiped.
 pub fn stray_is_legal()
-    ensures { IsLegal stray_daemon stray_wiped_run }
+    ensures { IsLegal greatest_limits stray_daemon stray_wiped_run }
 {}
 
 /// A real clean leaves a stray alone, so that nothing is to be done.
@@ -87,7 +89,7 @@ pub fn stray_is_wiped()
 /// A clean of all that takes a row and finds a stray, as a legal history: the row's own part is no stray. Two wipes run
 /// side by side, in path order, and the second one ends first.
 pub fn mixed_clean_is_legal()
-    ensures { (digest : Digest) → IsLegal (mixed_daemon digest) (mixed_run digest) }
+    ensures { (digest : Digest) → nat_le digest.size greatest_file ≡ true → IsLegal greatest_limits (mixed_daemon digest) (mixed_run digest) }
 {}
 
 /// Both the row's part and the stray are condemned, in path order, and in the end both are gone.

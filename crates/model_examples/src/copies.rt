@@ -1,14 +1,15 @@
-ghost use Rattle.std.specs.Prelude.{◌≡◌, [], ◌∷◌, codes, false, true, None, Some};
+ghost use Rattle.std.specs.Prelude.{◌≡◌, [], ◌∷◌, codes, false, true, None, Some, nat_le};
 ghost use Rattle.mat_digest.specs.declared.digest.Digest.{Digest};
-ghost use Rattle.mat_tree.specs.Trees.{file_sum, file_tree};
+ghost use Rattle.mat_tree.specs.Trees.{file_sum, file_tree, greatest_file};
 ghost use Rattle.mat_model.specs.declared.answers.Answer.TheVariants as answer;
 ghost use Rattle.mat_model.specs.declared.entries.Task.TheVariants as task;
 ghost use Rattle.mat_model.specs.Declarations.{new_row};
 ghost use Rattle.model_examples.specs.FirstRuns.{new_daemon};
 ghost use Rattle.model_examples.specs.CopyRuns.{copy_asked, copy_begun, copy_run, declared_anew_run, late_copy_asked, late_copy_begun, lent_cleaned, lent_returned, lent_run, old_source_returned, self_run, source_declared_anew, two_copies_begun, two_copies_run};
-ghost use Rattle.mat_model.specs.History.{IsEach, IsLegal, IsRecorded, book_of, opened, point_of};
+ghost use Rattle.mat_model.specs.History.{book_of, opened, point_of};
+ghost use Rattle.mat_model.specs.Legal.{IsLegal, IsEach, IsRecorded};
 ghost use Rattle.model_examples.specs.RoomRuns.{roomy};
-ghost use Rattle.mat_model.specs.Room.{HasRoom};
+ghost use Rattle.mat_model.specs.Room.{greatest_limits};
 ghost use Rattle.model_examples.specs.Steps.{digest_a, digest_b, path_p, path_q, path_r};
 ghost use Rattle.mat_model.specs.WorkState.{copied, first_task, lent_by, store};
 
@@ -16,13 +17,7 @@ ghost use Rattle.mat_model.specs.WorkState.{copied, first_task, lent_by, store};
 /// file is written at `p` before `r` is asked for: `r` is made all the same. A copy of `s`, where nothing is declared, has
 /// no source.
 pub fn copy_run_is_legal()
-    ensures { IsLegal new_daemon copy_run }
-{}
-
-/// In this history there is room for each entry, and something is recorded exactly where a row was made.
-pub fn copy_run_has_room()
-    ensures room { IsEach (HasRoom roomy) (opened new_daemon) copy_run }
-    ensures recorded { IsEach IsRecorded (opened new_daemon) copy_run }
+    ensures { IsLegal greatest_limits new_daemon copy_run }
 {}
 
 /// The make of a copy whose source stands reads the source's part of the disk.
@@ -75,7 +70,7 @@ pub fn copies_are_ready()
 /// A source that is cleaned while it is read, as a legal history: the copy is made and answered all the same, and then the
 /// source's part of the disk is wiped.
 pub fn lent_run_is_legal()
-    ensures { (digest : Digest) → IsLegal new_daemon (lent_run digest) }
+    ensures { (digest : Digest) → nat_le digest.size greatest_file ≡ true → IsLegal greatest_limits new_daemon (lent_run digest) }
 {}
 
 /// While the source's part is read, its row is gone from the book and from what is stored, but it is no debris, and
@@ -148,7 +143,7 @@ pub fn copy_outlives_its_source()
 
 /// A source whose row is declared anew while it is read, as a legal history: the copy is made of the old file, and then the new one is made.
 pub fn declared_anew_run_is_legal()
-    ensures { IsLegal new_daemon declared_anew_run }
+    ensures { IsLegal greatest_limits new_daemon declared_anew_run }
 {}
 
 /// As long as the old file is lent it is no debris, and the new one, though it is asked for, can't be made; the job keeps the tree that the source had.
@@ -194,7 +189,7 @@ pub fn new_source_comes_first()
 
 /// Two copies of one source, as a legal history: the second one is made when the first one is.
 pub fn two_copies_are_legal()
-    ensures { (digest : Digest) → IsLegal new_daemon (two_copies_run digest) }
+    ensures { (digest : Digest) → nat_le digest.size greatest_file ≡ true → IsLegal greatest_limits new_daemon (two_copies_run digest) }
 {}
 
 /// A source is lent to one job at a time, so that the other copy waits.
@@ -206,7 +201,7 @@ pub fn source_is_lent_once()
 /// A file in a directory is copied as a file, a link in it is no source, though its path is covered, and a copy of a part
 /// over the whole, as a legal history, takes the whole away.
 pub fn inner_copy_is_legal()
-    ensures { (digest : Digest) → IsLegal new_daemon (self_run digest) }
+    ensures { (digest : Digest) → nat_le digest.size greatest_file ≡ true → IsLegal greatest_limits new_daemon (self_run digest) }
 {}
 
 /// The copies have the tree of the file. The first one would read it from the directory's part of the disk, and so would

@@ -1,13 +1,15 @@
-ghost use Rattle.std.specs.Prelude.{◌≡◌, [], ◌∷◌, false, true, None, Some};
+ghost use Rattle.mat_model.specs.Room.{greatest_limits};
+ghost use Rattle.std.specs.Prelude.{◌≡◌, [], ◌∷◌, false, true, None, Some, nat_le};
 ghost use Rattle.mat_digest.specs.declared.digest.Digest.{Digest};
 ghost use Rattle.mat_tree.specs.Sums.{sum_of};
-ghost use Rattle.mat_tree.specs.Trees.{file_sum, file_tree};
+ghost use Rattle.mat_tree.specs.Trees.{file_sum, file_tree, greatest_file};
 ghost use Rattle.mat_model.specs.declared.answers.Answer.TheVariants as answer;
 ghost use Rattle.mat_model.specs.declared.entries.Task.TheVariants as task;
 ghost use Rattle.mat_model.specs.Declarations.{new_row};
 ghost use Rattle.model_examples.specs.FirstRuns.{new_daemon};
 ghost use Rattle.model_examples.specs.DeclareRuns.{above_asked, above_run, below_asked, below_run, below_stale, below_wiped, equal_run, executable_run, folder_asked, folder_path, folder_run, folder_tree, path_above, path_below, path_top, path_x, redeclared_run, remade_run, stale_run};
-ghost use Rattle.mat_model.specs.History.{IsLegal, book_of, point_of};
+ghost use Rattle.mat_model.specs.History.{book_of, point_of};
+ghost use Rattle.mat_model.specs.Legal.{IsLegal};
 ghost use Rattle.model_examples.specs.Steps.{digest_a, digest_b, path_p};
 ghost use Rattle.mat_model.specs.WorkState.{first_task};
 
@@ -15,7 +17,7 @@ ghost use Rattle.mat_model.specs.WorkState.{first_task};
 /// file keeps stamp 1, and an ensure is ready at once. An executable file of the same bytes is another tree, and gets a
 /// stamp of its own.
 pub fn executable_run_is_legal()
-    ensures { IsLegal new_daemon executable_run }
+    ensures { IsLegal greatest_limits new_daemon executable_run }
 {}
 
 /// The row of an equal tree goes on standing under its stamp, and nothing is to be done.
@@ -43,7 +45,7 @@ pub fn executable_file_replaces()
 /// `out` are undeclared, and once the tree is made the ensure of `out/d/x` is ready with the stamp and the sum of the
 /// directory.
 pub fn folder_run_is_legal()
-    ensures { (digest : Digest) → IsLegal new_daemon (folder_run digest) }
+    ensures { (digest : Digest) → nat_le digest.size greatest_file ≡ true → IsLegal greatest_limits new_daemon (folder_run digest) }
 {}
 
 /// The ticket for a file in a directory has the whole directory made.
@@ -68,7 +70,7 @@ pub fn folder_answers_ticket()
 /// A redeclaration while its path is made, as a legal history: the end of the first make is stale, then the new file is
 /// made, and its end counts.
 pub fn remade_run_is_legal()
-    ensures { IsLegal new_daemon remade_run }
+    ensures { IsLegal greatest_limits new_daemon remade_run }
 {}
 
 /// While the first make runs nothing else begins, and the ticket is open on the new row.
@@ -105,7 +107,8 @@ pub fn second_make_answers()
 /// A declaration below a path that is made, as a legal history: the make of `a/b` ends stale, what it left is wiped, and
 /// then `a/b/c` is made.
 pub fn below_run_is_legal()
-    ensures { (digest other : Digest) → IsLegal new_daemon (below_run digest other) }
+    ensures { (digest other : Digest) →
+        nat_le digest.size greatest_file ≡ true → nat_le other.size greatest_file ≡ true → IsLegal greatest_limits new_daemon (below_run digest other) }
 {}
 
 /// The declaration at `a/b/c`, entry 4, takes the row of `a/b` away and answers its ticket. A ticket for the new row is
@@ -167,7 +170,7 @@ pub fn row_below_is_ready()
 
 /// A file over a row that stands below its path, as a legal history: the row at `a/b` is gone once `a` is a file, and `a` is made at once.
 pub fn above_run_is_legal()
-    ensures { IsLegal new_daemon above_run }
+    ensures { IsLegal greatest_limits new_daemon above_run }
 {}
 
 /// What stands at `a/b` is debris then, which keeps no make above it from coming first: that takes it along.

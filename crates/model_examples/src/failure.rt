@@ -1,19 +1,21 @@
-ghost use Rattle.std.specs.Prelude.{◌≡◌, [], ◌∷◌, false, true, None, Some};
+ghost use Rattle.mat_model.specs.Room.{greatest_limits};
+ghost use Rattle.std.specs.Prelude.{◌≡◌, [], ◌∷◌, false, true, None, Some, nat_le};
 ghost use Rattle.mat_digest.specs.declared.digest.Digest.{Digest};
-ghost use Rattle.mat_tree.specs.Trees.{file_sum, file_tree};
+ghost use Rattle.mat_tree.specs.Trees.{file_sum, file_tree, greatest_file};
 ghost use Rattle.mat_model.specs.declared.answers.Answer.TheVariants as answer;
 ghost use Rattle.mat_model.specs.declared.entries.Task.TheVariants as task;
 ghost use Rattle.mat_model.specs.Declarations.{new_row};
 ghost use Rattle.model_examples.specs.FirstRuns.{new_daemon};
 ghost use Rattle.model_examples.specs.FailureRuns.{failure_run, found_run, missing_run, path_px, unwiped_run, dirty_run};
-ghost use Rattle.mat_model.specs.History.{IsEach, IsLegal, IsRecorded, book_of, opened, point_of};
+ghost use Rattle.mat_model.specs.History.{book_of, opened, point_of};
+ghost use Rattle.mat_model.specs.Legal.{IsLegal, IsEach, IsRecorded};
 ghost use Rattle.model_examples.specs.Steps.{disk_note, path_p};
 ghost use Rattle.mat_model.specs.WorkState.{first_task};
 
 /// A file that the store lacks and then has, as a legal history: the first ensure is answered that it is missing, and the
 /// second one is ready.
 pub fn found_run_is_legal()
-    ensures { (digest : Digest) → IsLegal new_daemon (found_run digest) }
+    ensures { (digest : Digest) → nat_le digest.size greatest_file ≡ true → IsLegal greatest_limits new_daemon (found_run digest) }
 {}
 
 /// A make that fails leaves its row declared, and its ticket, answered at entry 4, is open no more: nothing is to be done.
@@ -58,12 +60,8 @@ pub fn found_file_is_ready()
 /// A removed row and a wipe that fails, as a legal history: what the failed make may have left at `p` is wiped before
 /// `p/x` is made. The disk fails at that, the ensure of `p/x` is answered so, and the next one is ready.
 pub fn failure_run_is_legal()
-    ensures { (digest other : Digest) → IsLegal new_daemon (failure_run digest other) }
-{}
-
-/// In this history something is recorded exactly where a row was made.
-pub fn failure_run_is_recorded()
-    ensures { (digest other : Digest) → IsEach IsRecorded (opened new_daemon) (failure_run digest other) }
+    ensures { (digest other : Digest) →
+        nat_le digest.size greatest_file ≡ true → nat_le other.size greatest_file ≡ true → IsLegal greatest_limits new_daemon (failure_run digest other) }
 {}
 
 /// A removed row whose make failed leaves debris, though it never stood. Its wipe comes first, since it lies above a row

@@ -1,11 +1,14 @@
-ghost use Rattle.std.specs.Prelude.{◌≡◌, [], ◌∷◌, ◌++◌, true, false, Some};
+ghost use Rattle.mat_model.specs.Room.{greatest_limits};
+ghost use Rattle.std.specs.Prelude.{◌≡◌, [], ◌∷◌, ◌++◌, true, false, Some, nat_le};
 ghost use Rattle.mat_digest.specs.declared.digest.Digest.{Digest};
 ghost use Rattle.mat_tree.specs.Trees.{file_sum, file_tree, same_digest};
 ghost use Rattle.mat_model.specs.declared.answers.Answer.TheVariants as answer;
 ghost use Rattle.mat_model.specs.declared.answers.Reply.TheVariants as reply;
 ghost use Rattle.mat_model.specs.declared.entries.Task.TheVariants as task;
+ghost use Rattle.model_examples.specs.Steps.{digest_a};
 ghost use Rattle.model_examples.specs.FirstRuns.{an_entry, asked_run, asks, deep_path, empty_book, enters, file_path, first_run, made_run, new_daemon, out_path, served_next, writes};
-ghost use Rattle.mat_model.specs.History.{IsLegal, book_of, point_of};
+ghost use Rattle.mat_model.specs.History.{book_of, point_of};
+ghost use Rattle.mat_model.specs.Legal.{FollowsFrom, IsLegal};
 ghost use Rattle.mat_model.specs.Declarations.{new_row};
 ghost use Rattle.mat_model.specs.WorkState.{first_task};
 
@@ -14,7 +17,8 @@ ghost use Rattle.mat_model.specs.WorkState.{first_task};
 /// counts, a further ensure is ready with that stamp and sum, an ensure of `out` finds no row, and a write by command 9
 /// is refused.
 pub fn first_run_is_legal()
-    ensures { (digest : Digest) → IsLegal new_daemon (first_run digest) }
+    ensures follows { (digest : Digest) → FollowsFrom new_daemon (first_run digest) }
+    ensures legal { IsLegal greatest_limits new_daemon (first_run digest_a) }
 {}
 
 /// Once `out/f` is asked for, its make comes first.

@@ -1,8 +1,10 @@
+ghost use Rattle.mat_model.specs.Room.{greatest_limits};
 ghost use Rattle.std.specs.Prelude.{◌≡◌, [], ◌∷◌, None, Some};
 ghost use Rattle.mat_model.specs.declared.answers.Answer.TheVariants as answer;
 ghost use Rattle.model_examples.specs.FirstRuns.{empty_book, new_daemon};
 ghost use Rattle.model_examples.specs.GateRuns.{admitted_run, gate_run, given_up_run, queued_run, removed_run};
-ghost use Rattle.mat_model.specs.History.{IsLegal, book_of, point_of};
+ghost use Rattle.mat_model.specs.History.{book_of, point_of};
+ghost use Rattle.mat_model.specs.Legal.{IsLegal};
 ghost use Rattle.model_examples.specs.Steps.{path_p};
 ghost use Rattle.mat_model.specs.WorkState.{first_task};
 
@@ -11,7 +13,7 @@ ghost use Rattle.mat_model.specs.WorkState.{first_task};
 /// nobody is admitted, once 2 is gone too 3 is, for its state, and 4 once 3 is gone. A command that waits may not look,
 /// and one that never came can't go.
 pub fn gate_run_is_legal()
-    ensures { IsLegal new_daemon gate_run }
+    ensures { IsLegal greatest_limits new_daemon gate_run }
 {}
 
 /// While 2 is live on state 1, those who wait go on waiting, 4 for the live state too, since 3 stands before it.
@@ -31,7 +33,7 @@ pub fn front_is_admitted()
 
 /// A command may go while it waits. Then 4 is the front, and since it comes for the live state it is admitted at once.
 pub fn waiter_may_go()
-    ensures legal { IsLegal new_daemon given_up_run }
+    ensures legal { IsLegal greatest_limits new_daemon given_up_run }
     ensures live { (book_of new_daemon given_up_run).live ≡ 2 ∷ 4 ∷ [] }
     ensures waiting { (book_of new_daemon given_up_run).waiting ≡ [] }
 {}
@@ -45,7 +47,7 @@ pub fn last_is_admitted()
 /// an executable file of the same digest is another one, nothing is at `q`, the row isn't made yet, its ensure opens
 /// ticket 6, it can't go while that is open, the removal takes one row, and then it can go.
 pub fn removed_run_is_legal()
-    ensures { IsLegal new_daemon removed_run }
+    ensures { IsLegal greatest_limits new_daemon removed_run }
 {}
 
 /// The removal, entry 8, answers the ticket that nothing is declared any more.

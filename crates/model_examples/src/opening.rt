@@ -1,5 +1,7 @@
+ghost use Rattle.mat_model.specs.Room.{greatest_limits};
 ghost use Rattle.std.specs.Prelude.{◌≡◌, [], ◌∷◌, false, true};
-ghost use Rattle.mat_model.specs.History.{IsLegal, opened, point_of};
+ghost use Rattle.mat_model.specs.History.{opened, point_of};
+ghost use Rattle.mat_model.specs.Legal.{IsLegal};
 ghost use Rattle.mat_model.specs.Kept.{due};
 ghost use Rattle.mat_model.specs.Openings.{IsOpening, opening_debris, opening_rows, stray_debris};
 ghost use Rattle.model_examples.specs.OpeningRuns.{found_opening, stored_again_run, stored_file, three_kept};
@@ -25,7 +27,7 @@ pub fn version1_is_due()
 
 /// A flush stores it again, in the second version, and then nothing is due.
 pub fn flush_stores_version1_again()
-    ensures legal { IsLegal found_opening stored_again_run }
+    ensures legal { IsLegal greatest_limits found_opening stored_again_run }
     ensures kept { (point_of found_opening stored_again_run).kept
         ≡ stored_file path_p digest_a 5 true ∷ stored_file path_q digest_b 9 true ∷ [] }
 {}

@@ -1,7 +1,9 @@
+ghost use Rattle.mat_model.specs.Room.{greatest_limits};
 ghost use Rattle.std.specs.Prelude.{◌≡◌, [], ◌∷◌, Some};
 ghost use Rattle.mat_model.specs.declared.answers.Answer.TheVariants as answer;
 ghost use Rattle.mat_model.specs.Gate.{gate_of};
-ghost use Rattle.mat_model.specs.History.{IsLegal, book_of};
+ghost use Rattle.mat_model.specs.History.{book_of};
+ghost use Rattle.mat_model.specs.Legal.{IsLegal};
 ghost use Rattle.model_examples.specs.FirstRuns.{new_daemon};
 ghost use Rattle.model_examples.specs.PreemptionRuns.{path_a, preemption_run, soft_run, taken_run, told_run};
 
@@ -9,7 +11,7 @@ ghost use Rattle.model_examples.specs.PreemptionRuns.{path_a, preemption_run, so
 /// 4, which comes for state 1 and refuses to wait, is told that 2 is live, and then comes for that; 5 comes for state 1 and waits, since 3 isn't soft.
 /// Once 3 is gone, 7 waits behind 5, though who is live is soft, and once 4 is gone too, 5 is admitted. Command 2 went long ago.
 pub fn preemption_run_is_legal()
-    ensures { IsLegal new_daemon preemption_run }
+    ensures { IsLegal greatest_limits new_daemon preemption_run }
 {}
 
 /// Before that both are live, and 1 has a hold on what it declared, and 2 on what it asked for.

@@ -1,3 +1,4 @@
+ghost use Rattle.mat_model.specs.Room.{greatest_limits};
 ghost use Rattle.std.specs.Prelude.{◌≡◌, [], ◌∷◌, false, true, None, Some};
 ghost use Rattle.mat_tree.specs.Trees.{file_sum, file_tree};
 ghost use Rattle.mat_model.specs.declared.answers.Answer.TheVariants as answer;
@@ -5,7 +6,8 @@ ghost use Rattle.mat_model.specs.declared.answers.Reply.TheVariants as reply;
 ghost use Rattle.mat_model.specs.declared.entries.Task.TheVariants as task;
 ghost use Rattle.mat_model.specs.Declarations.{new_row};
 ghost use Rattle.model_examples.specs.StoreRuns.{flushed_run, not_kept_run, refused_run, store_run, stored_daemon, unremoved_run};
-ghost use Rattle.mat_model.specs.History.{IsEach, IsLegal, IsNoteApart, IsRecorded, answer, book_of, opened, point_of};
+ghost use Rattle.mat_model.specs.History.{answer, book_of, opened, point_of};
+ghost use Rattle.mat_model.specs.Legal.{IsLegal, IsEach, IsNoteApart, IsRecorded};
 ghost use Rattle.model_examples.specs.Steps.{digest_a, digest_b, path_p, removes, store_note};
 ghost use Rattle.mat_model.specs.WorkState.{first_task};
 
@@ -14,17 +16,7 @@ ghost use Rattle.mat_model.specs.WorkState.{first_task};
 /// one. A flush fails, the next one stores one row and the one behind it none. A removal fails, is refused to a command
 /// that isn't live, and takes the row in the end.
 pub fn store_run_is_legal()
-    ensures { IsLegal stored_daemon store_run }
-{}
-
-/// In this history something is recorded exactly where a row was made.
-pub fn store_run_is_recorded()
-    ensures { IsEach IsRecorded (opened stored_daemon) store_run }
-{}
-
-/// In this history the notes of the store don't overlap.
-pub fn store_run_is_apart()
-    ensures { IsEach IsNoteApart (opened stored_daemon) store_run }
+    ensures { IsLegal greatest_limits stored_daemon store_run }
 {}
 
 /// Where the begin of a make is refused, entry 4, the note is the answer to the row's tickets, the row and the stored row

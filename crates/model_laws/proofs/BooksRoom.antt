@@ -12,7 +12,8 @@ use Rattle.mat_model.specs.declared.entries.Event.{Event}
 use Rattle.mat_model.specs.declared.limits.Limits.{Limits}
 use Rattle.mat_model.specs.declared.requests.Asked.{Asked}
 use Rattle.mat_model.specs.Gate.{Admitted, Gate, Served, admit, admits_front, admitted, depart, departed, gate_of, is_other_waiter, one_more}
-use Rattle.mat_model.specs.History.{IsEach, Point, after, after_all, request_context, next_number}
+use Rattle.mat_model.specs.History.{Point, after, after_all, request_context, next_number}
+use Rattle.mat_model.specs.Legal.{IsEach}
 use Rattle.mat_model.specs.Requests.{RequestContext, at_moment, enter, serve, serve_now}
 use Rattle.mat_model.specs.Room.{HasRoom, full_event, full_served, waits_past}
 use Rattle.model_laws.proofs.HistoryLemmas.{after_event}

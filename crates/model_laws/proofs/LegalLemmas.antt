@@ -9,7 +9,8 @@ use Rattle.mat_model.specs.declared.entries.Entry.{Entry}
 use Rattle.mat_model.specs.declared.entries.Outcome.{Outcome}
 use Rattle.mat_model.specs.declared.entries.Task.{Task}
 use Rattle.mat_model.specs.declared.requests.Asked.{Asked}
-use Rattle.mat_model.specs.History.{IsEach, Point, after, after_all}
+use Rattle.mat_model.specs.History.{Point, after, after_all}
+use Rattle.mat_model.specs.Legal.{IsEach}
 use Rattle.mat_model.specs.Requests.{RequestContext, at_moment, serve}
 use Rattle.mat_model.specs.Work.{finish}
 use Rattle.model_laws.proofs.Serving.{asked_beside, asked_by, ended_beside, ended_by}

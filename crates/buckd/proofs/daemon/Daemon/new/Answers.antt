@@ -1,7 +1,7 @@
 use Rattle.std.proofs.Common.{sym, subst}
-use Rattle.buckd.specs.Legal.{IsLegalAt}
+use Rattle.buckd.specs.Following.{IsFollowingAt}
 use Rattle.buckd.specs.Run.{Point}
-use Rattle.buckd.proofs.LegalRuns.{start-at}
+use Rattle.buckd.proofs.FollowingRuns.{start-at}
 use Rattle.buckd.proofs.StoreLemmas.{new-scene}
 use Rattle.buckd.proofs.daemon.Daemon.new.Goals as goal
 
@@ -11,5 +11,5 @@ returns-clause-start c = new-scene c.empty.result c.empty.ensures.point c.empty.
 pub returns-clause-sound : goal.returns-clause-sound
 returns-clause-sound c = record {
   ready = c.empty.ensures.ready;
-  legal = subst (λ (point : Point). IsLegalAt point) (sym c.empty.ensures.point) start-at;
+  follows = subst (λ (point : Point). IsFollowingAt point) (sym c.empty.ensures.point) start-at;
 }

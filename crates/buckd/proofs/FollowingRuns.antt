@@ -1,4 +1,4 @@
--- A run's history is legal, and its book is the book of the history.
+-- Each entry of a run's history follows, and its book is the book of the history.
 use Rattle.mat_path.proofs.Elements.{all_push, contains_map}
 use Rattle.mat_path.proofs.Bools.{and_false_right}
 use Rattle.std.proofs.Common.{◌≡◌, ℕ, zero, suc, ◌+◌, ◌==◌, max, Bool, true, false, not, ◌||◌, ◌&&◌, List, [], ◌∷◌, ◌++◌, length, count_by, Option, Some, None, cond, refl, sym, ap, ap₂, subst, ◌∙◌, Contains, find, filter, arith}
@@ -32,7 +32,8 @@ use Rattle.mat_model.specs.declared.requests.Request.{Request}
 use Rattle.mat_model.specs.declared.requests.Request.TheVariants as request
 use Rattle.mat_model.specs.Declarations.{declare, declare_tree, new_row}
 use Rattle.mat_model.specs.Gate.{Passed, Served, gate_of, is_live, pass}
-use Rattle.mat_model.specs.History.{IsInOrder, IsLegalEntry, Point as ModelPoint, answer, answer_done, is_of, opened, may_end, point_of, recorded_as, stepped}
+use Rattle.mat_model.specs.History.{Point as ModelPoint, answer, answer_done, opened, point_of, recorded_as, stepped}
+use Rattle.mat_model.specs.Legal.{Follows, IsInOrder, is_of, may_end, may_end_by}
 use Rattle.mat_model.specs.Requests.{at_moment, ensure_row, passed, preempted, serve}
 use Rattle.mat_model.specs.Rows.{are_apart, cover, overlaps_row, put_row, used, used_row}
 use Rattle.mat_model.specs.Tickets.{is_open}
@@ -50,7 +51,7 @@ use Rattle.script_lang.specs.declared.items.Item.TheVariants as item
 use Rattle.script_lang.specs.declared.items.Line.{Line}
 use Rattle.script_lang.specs.declared.items.Line.TheVariants as line
 use Rattle.buckd.specs.Lines.{line_of}
-use Rattle.buckd.specs.Legal.{IsLawful, IsLegalAt, is_own, is_own_way, new_daemon}
+use Rattle.buckd.specs.Following.{IsLawful, IsFollowingAt, is_own, is_own_way, new_daemon}
 use Rattle.buckd.specs.Making.{act_failure, bytes_failure, fetch_failure, file_failure, given, or_made, outcome_of}
 use Rattle.buckd.specs.Run.{Point, Scene, acts_of, ask, asked_of, begin, drain, end_job, entered, entry_at, idle, is_not_yet, made, made_if, make_first, makes, next, empty_context, start, tell, tell_asked, tell_item, tell_lines, told_not_yet, worked}
 
@@ -63,9 +64,9 @@ abbrev pub added : Event → Served → Point → Entry
 added happened served point = entry_at (length point.history) happened served.reply
 
 -- a run begins so
-pub start-at : IsLegalAt start.point
+pub start-at : IsFollowingAt start.point
 start-at = record {
-  lawful = record { legal = tt; book = refl; own = refl; first = refl; now = refl };
+  lawful = record { follows = tt; book = refl; own = refl; first = refl; now = refl };
   jobs = refl;
   debris = refl;
   ways = refl;
@@ -84,7 +85,7 @@ lawful-entered : (happened : Event) (served : Served) (point : Point) → IsLawf
 lawful-entered happened served point lawful is order clock =
     let entry : Entry = added happened served point in
     let moment : served.book.now ≡ 0 = clock.now ∙ lawful.now in
-    let rule : IsLegalEntry (model point) entry = record {
+    let rule : Follows (model point) entry = record {
       reply = sym (ap (λ (s : Served). s.reply) is);
       moment = sym (ap (λ (s : Served). s.book.now) is ∙ moment);
       number = count_by-all (is_of 0) point.history lawful.own
@@ -92,7 +93,7 @@ lawful-entered happened served point lawful is order clock =
       order = order;
     } in
     record {
-      legal = each-push IsLegalEntry (opened new_daemon) point.history entry lawful.legal rule;
+      follows = each-push Follows (opened new_daemon) point.history entry lawful.follows rule;
       book = sym (ap (λ (p : ModelPoint). p.book) (led happened served point is));
       own = all_push (is_of 0) point.history entry lawful.own refl;
       first = clock.first ∙ lawful.first;
@@ -223,9 +224,9 @@ clean_debris : (by_clean : Bool) (work : WorkState) (rows left : List Row) → H
 clean_debris by_clean work rows left has =
     ap (λ (gone : List Row). add_debris by_clean (filter (leaves_debris work) gone) work.debris) (none_removed rows left has)
 
--- a request that is served leaves a run legal
-pub ask-at : (wanted : Request) (point : Point) → IsLegalAt point → is_not_yet wanted point.book ≡ false →
-    IsLegalAt (ask (asked_of wanted) point).point
+-- a request that is served follows
+pub ask-at : (wanted : Request) (point : Point) → IsFollowingAt point → is_not_yet wanted point.book ≡ false →
+    IsFollowingAt (ask (asked_of wanted) point).point
 ask-at wanted point at now =
     let served : Served = serve (next point) 0 empty_context (asked_of wanted) point.book in
     let is : answer (model point) 0 (event.Asked (asked_of wanted)) served.reply ≡ served = asked-is wanted point served.reply at.lawful now in
@@ -246,7 +247,7 @@ ask-at wanted point at now =
         (stepped (model point) (added (event.Asked request) served point) served).work.jobs ≡ (model point).work.jobs →
         (stepped (model point) (added (event.Asked request) served point) served).work.debris ≡ (model point).work.debris →
         list_all is_own_way (stepped (model point) (added (event.Asked request) served point) served).work.ways ≡ true →
-        IsLegalAt (entered (event.Asked request) served point).point
+        IsFollowingAt (entered (event.Asked request) served point).point
     kept request served leads lawful jobs debris ways = record {
       lawful = lawful;
       jobs = ap (λ (p : ModelPoint). p.work.jobs) leads ∙ jobs ∙ at.jobs;
@@ -258,7 +259,7 @@ ask-at wanted point at now =
         (let p : Point = (entered (event.Asked (asked_of wanted)) served point).point in
         model p ≡ stepped (model point) (added (event.Asked (asked_of wanted)) served point) served) →
         IsLawful (entered (event.Asked (asked_of wanted)) served point).point →
-        HasAll (model point).book.rows served.book.rows → IsLegalAt (entered (event.Asked (asked_of wanted)) served point).point
+        HasAll (model point).book.rows served.book.rows → IsFollowingAt (entered (event.Asked (asked_of wanted)) served point).point
     works (request.Enter command state soft refuse) now served leads lawful has =
         kept (asked.Enter command state soft refuse) served leads lawful refl (clean_debris _ (model point).work (model point).book.rows served.book.rows has)
         (own_after (asked.Enter command state soft refuse) served.reply (model point).book.rows (model point).work.ways refl at.ways)
@@ -312,10 +313,10 @@ made_same path (outcome.Corrupt wanted found) work = record { jobs = refl; debri
 made_same path (outcome.Fault note) work = record { jobs = refl; debris = refl; ways = refl }
 made_same path outcome.NoMemory work = record { jobs = refl; debris = refl; ways = refl }
 
--- the make that comes first leaves a run legal, however a make may end
-worked-at : (path : List (List ℕ)) (stamp : ℕ) (ends : Outcome) (point : Point) → IsLegalAt point → are_apart point.book.rows ≡ true →
+-- the make that comes first follows, however a make may end
+worked-at : (path : List (List ℕ)) (stamp : ℕ) (ends : Outcome) (point : Point) → IsFollowingAt point → are_apart point.book.rows ≡ true →
     first_task idle point.book ≡ Some (task.Make path stamp) → may_end (task.Make path stamp) ends ≡ true →
-    IsLegalAt (worked (task.Make path stamp) ends point)
+    IsFollowingAt (worked (task.Make path stamp) ends point)
 worked-at path stamp ends point at apart is may =
     let make : Task = task.Make path stamp in
     let first_served : Served = record { reply = reply.Started; book = point.book } in
@@ -346,7 +347,7 @@ worked-at path stamp ends point at apart is may =
     let done : answer (model one) 0 (event.Done (next point) ends) served.reply ≡ served =
     ap (λ (o : Option Job). answer_done (model one) ends served.reply o) runs ∙ same_ends in
     let two : Point = (end_job (next point) make ends one).point in
-    let lawful : IsLawful two = lawful-entered (event.Done (next point) ends) served one begun done (record { job = job; runs = runs; owned = refl; ends = may })
+    let lawful : IsLawful two = lawful-entered (event.Done (next point) ends) served one begun done (ap (λ (o : Option Job). may_end_by o 0 ends) runs ∙ may)
     (finish-clock (next one) make ends recorded.Nothing one.book) in
     let led_two = led (event.Done (next point) ends) served one done in
     let found = first_make_found idle point.book.rows point.book.tickets path stamp apart is in
@@ -423,34 +424,34 @@ lawful_apart : (point : Point) → IsLawful point → are_apart point.book.rows 
 lawful_apart point lawful =
     ap (λ (b : Book). are_apart b.rows) lawful.book ∙ history_apart (opened new_daemon) point.history refl
 
--- what comes first where no job runs and nothing is debris leaves a run legal
-task-at : (wanted : Task) (scene : Scene) → IsLegalAt scene.point → first_task idle scene.point.book ≡ Some wanted → IsLegalAt (made wanted scene).point
+-- what comes first where no job runs and nothing is debris follows
+task-at : (wanted : Task) (scene : Scene) → IsFollowingAt scene.point → first_task idle scene.point.book ≡ Some wanted → IsFollowingAt (made wanted scene).point
 task-at (task.Make path stamp) scene at is =
     let acts : List Act = acts_of (task.Make path stamp) scene.point in
     worked-at path stamp (outcome_of scene.blobs acts) scene.point at (lawful_apart scene.point at.lawful) is (outcome_may path stamp scene.blobs acts)
 task-at (task.Wipe path) scene at is = absurd (no_wipe idle scene.point.book.rows scene.point.book.tickets path is)
 
 -- and by the first make, if there is one
-pub make_first-at : (scene : Scene) → IsLegalAt scene.point → IsLegalAt (make_first scene).point
+pub make_first-at : (scene : Scene) → IsFollowingAt scene.point → IsFollowingAt (make_first scene).point
 make_first-at scene at =
     elim (first_task idle scene.point.book) as
-    (λ o. first_task idle scene.point.book ≡ o → IsLegalAt (made_if scene o).point) [
+    (λ o. first_task idle scene.point.book ≡ o → IsFollowingAt (made_if scene o).point) [
       | None ↦ λ is. at
       | Some wanted ↦ λ is. task-at wanted scene at is
     ] refl
 
-pub makes-at : (count : ℕ) (scene : Scene) → IsLegalAt scene.point → IsLegalAt (makes count scene).point
+pub makes-at : (count : ℕ) (scene : Scene) → IsFollowingAt scene.point → IsFollowingAt (makes count scene).point
 makes-at zero scene at = at
 makes-at (suc count) scene at = makes-at count (make_first scene) (make_first-at scene at)
 
-pub drain-at : (scene : Scene) → IsLegalAt scene.point → IsLegalAt (drain scene).point
+pub drain-at : (scene : Scene) → IsFollowingAt scene.point → IsFollowingAt (drain scene).point
 drain-at scene at = makes-at (count_by is_open scene.point.book.tickets) scene at
 
 -- and by an item
-pub tell_item-at : (it : Item) (scene : Scene) → IsLegalAt scene.point → IsLegalAt (tell_item it scene).scene.point
+pub tell_item-at : (it : Item) (scene : Scene) → IsFollowingAt scene.point → IsFollowingAt (tell_item it scene).scene.point
 tell_item-at (item.Request asked) scene at =
     elim (is_not_yet asked scene.point.book) as
-    (λ b. is_not_yet asked scene.point.book ≡ b → IsLegalAt (cond b (told_not_yet scene) (tell_asked (asked_of asked) scene)).scene.point) [
+    (λ b. is_not_yet asked scene.point.book ≡ b → IsFollowingAt (cond b (told_not_yet scene) (tell_asked (asked_of asked) scene)).scene.point) [
       | true ↦ λ later. at
       | false ↦ λ now. ask-at asked scene.point at now
     ] refl
@@ -466,7 +467,7 @@ tell_item-at (item.Stop k pick) scene at = at
 tell_item-at item.Restart scene at = at
 
 -- and by a line
-pub tell-at : (read : Line) (scene : Scene) → IsLegalAt scene.point → IsLegalAt (tell read scene).scene.point
+pub tell-at : (read : Line) (scene : Scene) → IsFollowingAt scene.point → IsFollowingAt (tell read scene).scene.point
 tell-at line.Skip scene at = at
 tell-at line.End scene at = at
 tell-at line.Unread scene at = at
@@ -474,7 +475,7 @@ tell-at (line.Item it) scene at = tell_item-at it scene at
 tell-at line.NoMemory scene at = at
 
 -- and by some lines
-pub tell_lines-at : (lines : List (List ℕ)) (scene : Scene) → IsLegalAt scene.point → IsLegalAt (tell_lines lines scene).scene.point
+pub tell_lines-at : (lines : List (List ℕ)) (scene : Scene) → IsFollowingAt scene.point → IsFollowingAt (tell_lines lines scene).scene.point
 tell_lines-at [] scene at = at
 tell_lines-at (text ∷ texts) scene at =
     tell_lines-at texts (tell (line_of text) scene).scene (tell-at (line_of text) scene at)
