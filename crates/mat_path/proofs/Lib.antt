@@ -2,6 +2,7 @@ pub mod Bools
 pub mod CoveringLemmas
 pub mod CoveringRows
 pub mod Elements
+pub mod Halves
 pub mod JoinLemmas
 pub mod NameLemmas
 pub mod Overlaps

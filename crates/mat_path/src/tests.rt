@@ -1,4 +1,4 @@
-use crate::{JoinRefusal, Memory, Name, Path, PathRefusal, Rel, Target};
+use crate::{JoinRefusal, Memory, Name, Path, PathRefusal, Rel, Target, covering_of_rows_is_cut};
 use std::alloc::{AllocError, Global};
 use std::test::Fail;
 
@@ -115,5 +115,11 @@ fn names_and_targets_are_read(rt: HostRuntime) -> Result<(), Fail> {
             .len(),
         1024
     );
+    Ok(())
+}
+
+#[test]
+fn the_law_of_cut_rows_is_called(_rt: HostRuntime) -> Result<(), Fail> {
+    covering_of_rows_is_cut::<u8>();
     Ok(())
 }
