@@ -1,9 +1,10 @@
 -- A search by halves among children in strict order of name.
 use Rattle.mat_path.proofs.SameNames.{same_name-eq, same_name-sym}
-use Rattle.mat_path.proofs.PathLemmas.{lt_less, name_cmp-refl}
+use Rattle.mat_path.proofs.Halves.{all_at, earlier, named_at}
+use Rattle.mat_path.proofs.PathLemmas.{lt_less}
 use Rattle.std.specs.Cmp.{first_so, second_so}
 use Rattle.std.specs.Cmp.Lexicographic.{texts_ties}
-use Rattle.std.proofs.Common.{◌≡◌, ◌<◌, ◌≤◌, ℕ, zero, suc, ◌+◌, Bool, true, false, cond, List, [], ◌∷◌, ◌++◌, map, length, take, drop, get_or, refl, ◌∙◌, sym, ap, arith}
+use Rattle.std.proofs.Common.{◌≡◌, ◌<◌, ◌≤◌, ℕ, zero, suc, Bool, true, false, List, [], ◌∷◌, map, length, take, drop, get_or, refl, ◌∙◌, sym, ap, arith}
 use Rattle.std.specs.List.{AllWithin, list_all}
 use Rattle.std.specs.List.Sorted.{IsNonDecreasingBy, IsPartitionPoint}
 use Rattle.std.specs.Ordering.{is_lt, is_eq, ordering_index, ordering_reverse}
@@ -14,7 +15,6 @@ use Rattle.std.proofs.lemmas.Cmp.{nat_list_cmp_total}
 use Rattle.mat_path.specs.Names.{name_cmp, same_name}
 use Rattle.path_trie.specs.declared.node.Edge.{Edge}
 use Rattle.path_trie.specs.Nodes.{are_in_order, comes_before, comes_behind, edge_name}
-use Rattle.path_trie.proofs.Lists.{all_below, all_from}
 
 -- how a child's name stands to a name
 abbrev pub edge_cmp : {T : Type 0} → List ℕ → Edge T → Ordering
@@ -31,49 +31,18 @@ before_other name n h = same_name-sym name n ∙ texts_ties n name ∙ ap is_eq 
 pub behind_other : (name n : List ℕ) → comes_behind name n ≡ true → same_name name n ≡ false
 behind_other name n h = texts_ties name n ∙ ap is_eq (lt_less (name_cmp name n) h)
 
--- what holds of all holds at a place
-pub all_at : {X : Type 0} (p : X → Bool) (xs : List X) (k : ℕ) (d : X) → list_all p xs ≡ true → k < length xs → p (get_or xs k d) ≡ true
-all_at p [] k d e h = absurd (omega arith)
-all_at p (x ∷ xs) zero d e h = first_so (p x) (list_all p xs) e
-all_at p (x ∷ xs) (suc k) d e h = all_at p xs k d (second_so (p x) (list_all p xs) e) (omega arith)
-
 -- the name of the child at a place
 pub name_at : {T : Type 0} (es : List (Edge T)) (k : ℕ) (d : Edge T) (n : List ℕ) → k < length es → get_or (map edge_name es) k n ≡ edge_name (get_or es k d)
 name_at [] k d n h = absurd (omega arith)
 name_at (e ∷ es) zero d n h = refl
 name_at (e ∷ es) (suc k) d n h = name_at es k d n (omega arith)
 
-index_small : (o : Ordering) → ordering_index o ≤ 2
-index_small Less = omega arith
-index_small Equal = omega arith
-index_small Greater = omega arith
-
--- of two names in order the first stands no later to a third name
-earlier : (a b name : List ℕ) → is_lt (name_cmp a b) ≡ true → ordering_index (name_cmp a name) ≤ ordering_index (name_cmp b name)
-earlier a b name e = by (name_cmp b name) refl
-  where
-    by : (o : Ordering) → name_cmp b name ≡ o → ordering_index (name_cmp a name) ≤ ordering_index o
-    by Less q =
-        let less : name_cmp a name ≡ Less = nat_list_cmp_total.trans a b name (lt_less (name_cmp a b) e) q in
-        let none : ordering_index (name_cmp a name) ≡ 0 = ap ordering_index less in omega (arith, none)
-    by Equal q =
-        let same : b ≡ name = same_name-eq b name (texts_ties b name ∙ ap is_eq q) in
-        let less : name_cmp a name ≡ Less = ap (name_cmp a) (sym same) ∙ lt_less (name_cmp a b) e in
-        let none : ordering_index (name_cmp a name) ≡ 0 = ap ordering_index less in omega (arith, none)
-    by Greater q = index_small (name_cmp a name)
-
-behind_at : {T : Type 0} (name : List ℕ) (es : List (Edge T)) (k : ℕ) (d : Edge T) → list_all (comes_behind name) (map edge_name es) ≡ true → k < length es
-    → comes_behind name (edge_name (get_or es k d)) ≡ true
-behind_at name [] k d e h = absurd (omega arith)
-behind_at name (x ∷ es) zero d e h = first_so (comes_behind name (edge_name x)) (list_all (comes_behind name) (map edge_name es)) e
-behind_at name (x ∷ es) (suc k) d e h = behind_at name es k d (second_so (comes_behind name (edge_name x)) (list_all (comes_behind name) (map edge_name es)) e) (omega arith)
-
 pub rises : {T : Type 0} (name : List ℕ) (es : List (Edge T)) → are_in_order (map edge_name es) ≡ true → IsNonDecreasingBy (λ x. ordering_index (edge_cmp name x)) es
 rises name [] e i j d le h = absurd (omega arith)
 rises name (x ∷ es) e zero zero d le h = omega arith
 rises name (x ∷ es) e zero (suc j) d le h =
     earlier (edge_name x) (edge_name (get_or es j d)) name
-    (behind_at (edge_name x) es j d (first_so (list_all (comes_behind (edge_name x)) (map edge_name es)) (are_in_order (map edge_name es)) e) (omega arith))
+    (named_at edge_name (comes_behind (edge_name x)) es j d (first_so (list_all (comes_behind (edge_name x)) (map edge_name es)) (are_in_order (map edge_name es)) e) (omega arith))
 rises name (x ∷ es) e (suc i) zero d le h = absurd (omega arith)
 rises name (x ∷ es) e (suc i) (suc j) d le h =
     rises name es (second_so (list_all (comes_behind (edge_name x)) (map edge_name es)) (are_in_order (map edge_name es)) e) i j d (omega arith) (omega arith)

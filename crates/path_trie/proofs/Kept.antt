@@ -24,7 +24,8 @@ use Rattle.path_trie.specs.Nodes.{own, put_in, has_some, are_in_order, are_well,
 use Rattle.path_trie.proofs.Lists.{find_first, first_of, split_at}
 use Rattle.path_trie.proofs.Told.{below_edge_out, below_node_out, well_edge_out, well_out}
 use Rattle.path_trie.proofs.Around.{alike_below}
-use Rattle.path_trie.proofs.Halves.{all_at, back_is, between_before, between_behind, edge_cmp, found_name, front_is, name_at, rises}
+use Rattle.mat_path.proofs.Halves.{all_at}
+use Rattle.path_trie.proofs.Halves.{back_is, between_before, between_behind, edge_cmp, found_name, front_is, name_at, rises}
 use Rattle.path_trie.proofs.Below.{value_around, value_between}
 
 -- ---- a search by halves
