@@ -1,4 +1,5 @@
 -- A search by halves among children in strict order of name.
+use Rattle.mat_path.proofs.Halves.{all_at, earlier}
 use Rattle.mat_path.proofs.PathLemmas.{lt_less}
 use Rattle.mat_path.proofs.SameNames.{same_name-eq, same_name-sym}
 use Rattle.std.specs.Cmp.{first_so, second_so}
@@ -11,7 +12,6 @@ use Rattle.std.specs.declared.cmp.Ordering.TheVariants.{Less, Equal, Greater}
 use Rattle.std.specs.declared.option.Option.TheVariants.{Some, None}
 use Rattle.std.specs.Cmp.Lexicographic.{texts_ties}
 use Rattle.std.proofs.lemmas.Bool.{and_from, ltb-false, ltb-true}
-use Rattle.std.proofs.lemmas.Cmp.{nat_list_cmp_total}
 use Rattle.mat_path.specs.Names.{name_cmp}
 use Rattle.mat_tree.specs.declared.node.Child.{Child, out-Child}
 use Rattle.mat_tree.specs.Nodes.{are_in_order, at_root, below_all, below_child, below_node, child_cmp, is_behind, is_named, put_in, what_node}
@@ -53,38 +53,13 @@ children_in_order (c ∷ cs) e =
 
 -- ---- what a search by halves asks, and what it answers
 
-behind_at : (name : List ℕ) (cs : List Child) (k : ℕ) (d : Child) → list_all (is_behind name) cs ≡ true → k < length cs
-    → is_behind name (get_or cs k d) ≡ true
-behind_at name [] k d e h = absurd (omega arith)
-behind_at name (c ∷ cs) zero d e h = first_so (is_behind name c) (list_all (is_behind name) cs) e
-behind_at name (c ∷ cs) (suc k) d e h = behind_at name cs k d (second_so (is_behind name c) (list_all (is_behind name) cs) e) (omega arith)
-
-index_small : (o : Ordering) → ordering_index o ≤ 2
-index_small Less = omega arith
-index_small Equal = omega arith
-index_small Greater = omega arith
-
--- of two names in order the first stands no later to a third name
-earlier : (a b name : List ℕ) → is_lt (name_cmp a b) ≡ true → ordering_index (name_cmp a name) ≤ ordering_index (name_cmp b name)
-earlier a b name e = by (name_cmp b name) refl
-  where
-    by : (o : Ordering) → name_cmp b name ≡ o → ordering_index (name_cmp a name) ≤ ordering_index o
-    by Less q =
-        let less : name_cmp a name ≡ Less = nat_list_cmp_total.trans a b name (lt_less (name_cmp a b) e) q in
-        let none : ordering_index (name_cmp a name) ≡ 0 = ap ordering_index less in omega (arith, none)
-    by Equal q =
-        let same : b ≡ name = same_name-eq b name (texts_ties b name ∙ ap is_eq q) in
-        let less : name_cmp a name ≡ Less = ap (name_cmp a) (sym same) ∙ lt_less (name_cmp a b) e in
-        let none : ordering_index (name_cmp a name) ≡ 0 = ap ordering_index less in omega (arith, none)
-    by Greater q = index_small (name_cmp a name)
-
 -- children in order rise past a name: each stands no earlier to it than those before
 pub order_rises : (name : List ℕ) (cs : List Child) → are_in_order cs ≡ true → IsNonDecreasingBy (λ c. ordering_index (child_cmp name c)) cs
 order_rises name [] e i j d le h = absurd (omega arith)
 order_rises name (c ∷ cs) e zero zero d le h = omega arith
 order_rises name (c ∷ cs) e zero (suc j) d le h =
     earlier (out-Child c).name (out-Child (get_or cs j d)).name name
-    (behind_at (out-Child c).name cs j d (first_so (list_all (is_behind (out-Child c).name) cs) (are_in_order cs) e) (omega arith))
+    (all_at (is_behind (out-Child c).name) cs j d (first_so (list_all (is_behind (out-Child c).name) cs) (are_in_order cs) e) (omega arith))
 order_rises name (c ∷ cs) e (suc i) zero d le h = absurd (omega arith)
 order_rises name (c ∷ cs) e (suc i) (suc j) d le h =
     order_rises name cs (second_so (list_all (is_behind (out-Child c).name) cs) (are_in_order cs) e) i j d (omega arith) (omega arith)
@@ -108,7 +83,7 @@ found_at name (c ∷ cs) (suc k) d e h q =
     found_at name cs k d (second_so (list_all (is_behind (out-Child c).name) cs) (are_in_order cs) e) (omega arith) q
     ∙ sym (ap (λ b. cond b (Some c) (find (is_named name) cs))
     (other_name name c (get_or cs k d)
-    (behind_at (out-Child c).name cs k d (first_so (list_all (is_behind (out-Child c).name) cs) (are_in_order cs) e) (omega arith)) q))
+    (all_at (is_behind (out-Child c).name) cs k d (first_so (list_all (is_behind (out-Child c).name) cs) (are_in_order cs) e) (omega arith)) q))
 
 -- no child is named where none stands equal
 none_named : (name : List ℕ) (cs : List Child) → AllWithin (λ c. is_eq (child_cmp name c) ≡ false) cs 0 (length cs) → None ≡ find (is_named name) cs

@@ -19,5 +19,6 @@ mod tree;
 pub use flat::{Flat, GREATEST_FILE, What};
 pub use node::{Child, Children, Node};
 pub use refusal::TreeRefusal;
+pub use refuse::follows;
 pub use sum::{Kind, Sum};
 pub use tree::Tree;

@@ -90,8 +90,9 @@ fn are_in_turn(root: &Flat, rest: &[Flat]) -> bool
     true
 }
 
-// Whether a node at these names stands in the directory before it or in one of that one's folders.
-fn follows(names: &[Name], before: &Flat) -> bool
+/// Whether a node at these names, which aren't the root's, stands in the node before it, a directory, or in a folder of
+/// that node's rel.
+pub fn follows(names: &[Name], before: &Flat) -> bool
     requires { 1 ≤ length names.now }
     ensures { result ≡ follows names.now before.now }
 {
