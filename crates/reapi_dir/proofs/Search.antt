@@ -1,25 +1,19 @@
 -- What a binary search by name finds in a list of nodes whose names ascend.
-use Rattle.std.proofs.Common.{◌≡◌, ℕ, zero, suc, ◌<◌, ◌≤◌, Bool, true, false, ◌||◌, List, [], ◌∷◌, length, map, Result, Ok, Err, inl, inr, refl, sym, ap, ◌∙◌, arith, rules, slice_index_or}
+use Rattle.std.proofs.Common.{◌≡◌, ℕ, zero, suc, ◌<◌, Bool, true, false, ◌||◌, List, [], ◌∷◌, length, map, Result, Ok, Err, inl, inr, refl, sym, ap, ◌∙◌, arith, slice_index_or}
 use Rattle.std.specs.Prelude.{is_ok}
 use Rattle.std.specs.List.{list_all, list_any}
 use Rattle.std.specs.List.Sorted.{IsBinarySearchResult, IsNonDecreasingBy, IsSearchInRange}
-use Rattle.std.specs.Ordering.{is_eq, is_lt, ordering_index, ordering_reverse}
+use Rattle.std.specs.Ordering.{is_eq, ordering_index, ordering_reverse}
 use Rattle.std.specs.declared.cmp.Ordering.{Ordering}
 use Rattle.std.specs.declared.cmp.Ordering.TheVariants.{Less, Equal, Greater}
-use Rattle.std.specs.Cmp.{IsTotalOrder, first_so, second_so}
-use Rattle.std.specs.Cmp.Rules.{comparing}
+use Rattle.std.specs.Cmp.{first_so, second_so}
 use Rattle.std.specs.Cmp.Lexicographic.{texts_ties}
 use Rattle.std.proofs.lemmas.Bool.{and_from, cases_lt}
+use Rattle.std.proofs.lemmas.Cmp.{nat_list_cmp_total}
+use Rattle.mat_path.proofs.Halves.{earlier, named_at}
+use Rattle.mat_path.proofs.PathLemmas.{lt_less}
 use Rattle.mat_path.specs.Names.{name_cmp, same_name}
 use Rattle.reapi_dir.specs.Grammar.{ascend, is_before}
-
-names_total : IsTotalOrder name_cmp
-names_total = search (comparing, rules)
-
-is_less : (o : Ordering) → is_lt o ≡ true → o ≡ Less
-is_less Less h = refl
-is_less Equal h = cc
-is_less Greater h = cc
 
 eq_back : (o : Ordering) → is_eq (ordering_reverse o) ≡ is_eq o
 eq_back Less = refl
@@ -30,51 +24,26 @@ eq_back Greater = refl
 pub before_all : (a b : List ℕ) (names : List (List ℕ)) → is_before a b ≡ true → list_all (is_before b) names ≡ true → list_all (is_before a) names ≡ true
 before_all a b [] h all = refl
 before_all a b (name ∷ names) h all =
-    let first = is_less (name_cmp b name) (first_so (is_before b name) (list_all (is_before b) names) all) in
-    let below : name_cmp a name ≡ Less = names_total.trans a b name (is_less (name_cmp a b) h) first in
+    let first = lt_less (name_cmp b name) (first_so (is_before b name) (list_all (is_before b) names) all) in
+    let below : name_cmp a name ≡ Less = nat_list_cmp_total.trans a b name (lt_less (name_cmp a b) h) first in
     and_from (is_before a name) (list_all (is_before a) names) (rw below refl)
     (before_all a b names h (second_so (is_before b name) (list_all (is_before b) names) all))
 
 -- whether a name is that of a node, by their order
 pub same_by_order : (name other : List ℕ) → same_name name other ≡ is_eq (name_cmp other name)
 same_by_order name other =
-    texts_ties name other ∙ ap is_eq (names_total.antisymm name other) ∙ eq_back (name_cmp other name)
-
--- a name below another one stands no higher against a third
-below_against : (a b name : List ℕ) → name_cmp a b ≡ Less → (o : Ordering) → name_cmp b name ≡ o
-    → ordering_index (name_cmp a name) ≤ ordering_index o
-below_against a b name h Less e = rw (names_total.trans a b name h e) (omega arith)
-below_against a b name h Equal e =
-    let turned = names_total.antisymm b a in
-    let same = names_total.congr b name a e in
-    let back = names_total.antisymm a name in
-    let less : name_cmp a name ≡ Less = rw (back, ← same, turned, h) refl in
-    rw less (omega arith)
-below_against a b name h Greater e = at_most (name_cmp a name)
-  where
-    at_most : (o : Ordering) → ordering_index o ≤ 2
-    at_most Less = omega arith
-    at_most Equal = omega arith
-    at_most Greater = omega arith
+    texts_ties name other ∙ ap is_eq (nat_list_cmp_total.antisymm name other) ∙ eq_back (name_cmp other name)
 
 module _ {T : Type 0} (name_of : T → List ℕ) (name : List ℕ) where
   against : T → Ordering
   against node = name_cmp (name_of node) name
 
-  -- the first of names that ascend is below each later one
-  first_below : (x : T) (xs : List T) → list_all (is_before (name_of x)) (map name_of xs) ≡ true → (j : ℕ) (d : T) → j < length xs
-      → name_cmp (name_of x) (name_of (slice_index_or xs j d)) ≡ Less
-  first_below x [] h j d inside = absurd (omega arith)
-  first_below x (y ∷ ys) h zero d inside = is_less _ (first_so (is_before (name_of x) (name_of y)) (list_all (is_before (name_of x)) (map name_of ys)) h)
-  first_below x (y ∷ ys) h (suc j) d inside =
-      first_below x ys (second_so (is_before (name_of x) (name_of y)) (list_all (is_before (name_of x)) (map name_of ys)) h) j d (omega arith)
-
   rising : (xs : List T) → ascend (map name_of xs) ≡ true → IsNonDecreasingBy (λ y. ordering_index (name_cmp (name_of y) name)) xs
   rising [] h i j d le inside = absurd (omega arith)
   rising (x ∷ xs) h zero zero d le inside = omega arith
   rising (x ∷ xs) h zero (suc j) d le inside =
-      below_against (name_of x) (name_of (slice_index_or xs j d)) name
-      (first_below x xs (first_so (list_all (is_before (name_of x)) (map name_of xs)) (ascend (map name_of xs)) h) j d (omega arith)) _ refl
+      earlier (name_of x) (name_of (slice_index_or xs j d)) name
+      (named_at name_of (is_before (name_of x)) xs j d (first_so (list_all (is_before (name_of x)) (map name_of xs)) (ascend (map name_of xs)) h) (omega arith))
   rising (x ∷ xs) h (suc i) zero d le inside = absurd (omega arith)
   rising (x ∷ xs) h (suc i) (suc j) d le inside =
       rising xs (second_so (list_all (is_before (name_of x)) (map name_of xs)) (ascend (map name_of xs)) h) i j d (omega arith) (omega arith)
