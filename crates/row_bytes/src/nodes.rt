@@ -1,14 +1,14 @@
 // The nodes of a tree, read in flat order.
 ghost use Rattle.std.specs.Prelude.{◌≡◌, ◌≤◌, ◌∷◌, [], true, length, IfOk};
 ghost use Rattle.mat_path.specs.Names.{rel_of};
-ghost use Rattle.mat_tree.specs.Trees.{IsTree, follows, is_dir};
+ghost use Rattle.mat_tree.specs.Trees.{IsTree};
 ghost use Rattle.row_bytes.specs.Reading as Spec;
 
 use crate::fields::{place, read_count, read_digest, read_mark, read_text};
 use crate::mark::Mark;
 use crate::refusal::RowRefusal;
-use mat_path::{Memory, Name, PathRefusal, Rel, Target};
-use mat_tree::{Flat, Tree, What};
+use mat_path::{Memory, PathRefusal, Rel, Target};
+use mat_tree::{Flat, Tree, What, follows};
 use std::alloc::Global;
 
 // The target that a text is, if it is one.
@@ -63,27 +63,6 @@ fn fitting_rel(alloc: Global, at: usize, text: &[u8]) -> Result<Rel, RowRefusal>
         Ok(None) => Err(RowRefusal::Bad(at)),
         Err(Memory) => Err(RowRefusal::NoMemory),
     }
-}
-
-// Whether a node is a directory.
-fn is_dir(what: &What) -> bool
-    ensures { result ≡ is_dir what.now }
-{
-    match what {
-        What::File { .. } => false,
-        What::Dir => true,
-        What::Link(_) => false,
-    }
-}
-
-// Whether a node at these names stands in the directory before it or in one of that one's folders.
-fn follows(names: &[Name], before: &Flat) -> bool
-    requires { 1 ≤ length names.now }
-    ensures { result ≡ follows names.now before.now }
-{
-    let parent = &names[..names.len() - 1];
-    let place = before.rel.names();
-    place.starts_with(parent) && (is_dir(&before.what) || parent.len() < place.len())
 }
 
 // Whether a rel may come behind a node: then its directory is that node, or a folder of it.
