@@ -17,4 +17,4 @@ mod write;
 pub use read::read_words;
 pub use refusal::WordsRefusal;
 pub use words::Words;
-pub use write::{push_node, write_words};
+pub use write::{push_node, push_text, write_words};

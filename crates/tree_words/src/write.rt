@@ -94,8 +94,8 @@ fn push_file(out: &mut Vec<u8>, digest: &Digest, exec: bool) -> Result<(), Memor
     push_text(out, digest.write_text().bytes())
 }
 
-// Appends a text.
-fn push_text(out: &mut Vec<u8>, text: &[u8]) -> Result<(), Memory>
+/// Appends a text. After want of memory what was there still stands in front.
+pub fn push_text(out: &mut Vec<u8>, text: &[u8]) -> Result<(), Memory>
     ensures ok { OnOk result (out.new.items ≡ out.old.items ++ text.now) }
     ensures err { OnErr result (StartsWith out.new.items out.old.items) }
 {
