@@ -21,8 +21,7 @@ mod writing;
 pub use items::{Item, Line, Pick};
 pub use lines::read_line;
 pub use texts::{
-    push_answer, push_not_yet, push_numbered, push_reply, push_text, push_told, push_unread,
-    write_told,
+    push_answer, push_not_yet, push_numbered, push_reply, push_told, push_unread, write_told,
 };
 pub use told::{Answered, Said, ScanNote, Told};
 pub use writing::write_item;

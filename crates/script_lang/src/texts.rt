@@ -13,16 +13,7 @@ use mat_model::{Answer, Device, FaultNote, Gone, Limit, Reply, Task};
 use mat_path::{Memory, Path};
 use mat_tree::{Flat, Kind, Sum};
 use std::alloc::Global;
-use tree_words::push_node;
-
-/// Puts a text behind. After want of memory what was there still stands in front, here and in each call below.
-pub fn push_text(out: &mut Vec<u8>, text: &[u8]) -> Result<(), Memory>
-    ensures ok { OnOk result (out.new.items ≡ out.old.items ++ text.now) }
-    ensures err { OnErr result (StartsWith out.new.items out.old.items) }
-{
-    out.extend_from_slice(text)?;
-    Ok(())
-}
+use tree_words::{push_node, push_text};
 
 // Puts a number behind, in decimal.
 pub(crate) fn push_number(out: &mut Vec<u8>, number: u64) -> Result<(), Memory>
@@ -33,7 +24,7 @@ pub(crate) fn push_number(out: &mut Vec<u8>, number: u64) -> Result<(), Memory>
     push_text(out, buffer.format(number).as_bytes())
 }
 
-/// Puts a word and a number behind.
+/// Puts a word and a number behind. After want of memory what was there still stands in front, here and in each call below.
 pub fn push_numbered(out: &mut Vec<u8>, word: &[u8], number: u64) -> Result<(), Memory>
     ensures ok { OnOk result (out.new.items ≡ out.old.items ++ numbered word.now number) }
     ensures err { OnErr result (StartsWith out.new.items out.old.items) }

@@ -14,13 +14,13 @@ ghost use Rattle.script_lang.specs.Texts.{numbered};
 ghost use Rattle.script_lang.specs.Written.{IsAddressed, IsItem, IsRequest, bytes_word, flags_text, item_text, item_words, mode_text, pick_text, request_words};
 
 use crate::items::{Item, Pick};
-use crate::texts::{push_device, push_digest, push_kind, push_numbered, push_path, push_text};
+use crate::texts::{push_device, push_digest, push_kind, push_numbered, push_path};
 use mat_digest::Digest;
 use mat_model::{CleanMode, Device, Request};
 use mat_path::{Memory, Path};
 use mat_tree::{Sum, Tree};
 use std::alloc::Global;
-use tree_words::write_words;
+use tree_words::{push_text, write_words};
 
 // Puts the word of some bytes behind.
 fn push_bytes(alloc: Global, out: &mut Vec<u8>, bytes: &[u8]) -> Result<(), Memory>
