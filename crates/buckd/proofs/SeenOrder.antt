@@ -1,12 +1,12 @@
 -- The nodes of rows that are apart, as they lie below a path, are in strict order where each row's tree is.
-use Rattle.std.proofs.Common.{◌≡◌, ℕ, Bool, true, false, List, [], ◌∷◌, ◌++◌, length, drop, Option, Some, None, cond, Ordering, Less, Equal, Greater, refl, sym, ap, ap₂, ◌∙◌}
+use Rattle.std.proofs.Common.{◌≡◌, ℕ, Bool, true, false, List, [], ◌∷◌, ◌++◌, length, drop, Option, Some, None, cond, refl, sym, ap, ap₂, ◌∙◌}
 use Rattle.std.specs.List.{list_all, flat_map, filter_map, cons_option}
 use Rattle.std.specs.Option.{option_map}
 use Rattle.std.specs.Ordering.{is_lt}
 use Rattle.std.proofs.lemmas.Bool.{and_from, and_parts}
 use Rattle.std.proofs.lemmas.List.Folds.{list_all-append}
 use Rattle.mat_path.specs.Names.{is_prefix, path_cmp}
-use Rattle.mat_path.proofs.PathLemmas.{prefix_split, path_cmp-append, before_apart}
+use Rattle.mat_path.proofs.PathLemmas.{prefix_split, lt_less, path_cmp-append, before_apart}
 use Rattle.mat_tree.specs.declared.flat.Flat.{Flat}
 use Rattle.mat_tree.specs.Trees.{ascends, is_after}
 use Rattle.mat_model.specs.declared.book.Row.{Row}
@@ -110,12 +110,6 @@ there_keeps : (path : List (List ℕ)) (disk : Nodes) → KeepsOrder (node_there
 there_keeps path disk x y z w one other after =
     ap is_lt (ap₂ path_cmp (there_rel path disk x z one) (there_rel path disk y w other)) ∙ after
 
--- an answer that is Less
-less_is : (o : Ordering) → is_lt o ≡ true → o ≡ Less
-less_is Less h = refl
-less_is Equal h = cc
-less_is Greater h = cc
-
 -- a node of a row comes before all of the rows that come after that row
 seen_before : (path : List (List ℕ)) (row : Row) (x z : Flat) → seen_node path row.path x ≡ Some z → (rows : List Row) →
     list_all (is_apart row) rows ≡ true → list_all (is_after z.rel) (flat_map (seen_of path) rows) ≡ true
@@ -128,7 +122,7 @@ seen_before path row x z is (next ∷ rows) all =
     (every_picked (is_after z.rel) (seen_node path next.path)
     (λ y w other. ap is_lt
     (seen_cmp path row.path next.path x y z w is other
-    ∙ before_apart row.path next.path (less_is (path_cmp row.path next.path) apart.0) apart.1 x.rel y.rel))
+    ∙ before_apart row.path next.path (lt_less (path_cmp row.path next.path) apart.0) apart.1 x.rel y.rel))
     next.tree)
     (seen_before path row x z is rows parts.1)
 

@@ -41,9 +41,10 @@ use mat_path::{Items, Memory, Path, Rel};
 use mat_tree::{Flat, Kind, Sum, Tree, What};
 use reapi_dir::sum_of;
 use region_port::MemDisk;
-use script_lang::{Item, Line, Said, push_not_yet, push_reply, push_text, push_unread};
+use script_lang::{Item, Line, Said, push_not_yet, push_reply, push_unread};
 use std::alloc::Global;
 use std::collections::BTreeMap;
+use tree_words::push_text;
 use write_plan::Method;
 
 /// The daemon: the parts of its book, where the bytes of each row come from, the history so far, the disk and the store.

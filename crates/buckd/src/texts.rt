@@ -5,7 +5,8 @@ ghost use Rattle.buckd.specs.Texts.{answer_line, answer_lines, given_line, said_
 
 use mat_model::{Answer, Given, Ticket};
 use mat_path::{Items, Memory};
-use script_lang::{Said, Told, push_answer, push_numbered, push_text, push_told};
+use script_lang::{Said, Told, push_answer, push_numbered, push_told};
+use tree_words::push_text;
 
 // Puts the line of an answered ticket behind.
 fn push_answer_line(out: &mut Vec<u8>, ticket: u64, answer: &Answer) -> Result<(), Memory>
