@@ -1,5 +1,6 @@
 pub mod Adapters
 pub mod Answers
 pub mod Causes
+pub mod Clocks
 pub mod Memory
 pub mod Streams

@@ -1,8 +1,9 @@
 //! Floor of values: where bytes come from and where they go: sources and sinks that count their faults, over readers
-//! and writers of std and in memory.
+//! and writers of std and in memory; and clocks.
 #![tactic(auto)]
 
 mod answer;
+mod clock;
 mod mem_sink;
 mod mem_source;
 mod retry;
@@ -13,6 +14,7 @@ mod tests;
 mod ways;
 
 pub use answer::{Did, Got, Put};
+pub use clock::{Clock, MemClock};
 pub use mem_sink::MemSink;
 pub use mem_source::MemSource;
 pub use std_sink::StdSink;

@@ -1,4 +1,4 @@
-use crate::{Arm, Got, MemSink, MemSource, Put, Sink, Source, StdSink, StdSource};
+use crate::{Arm, Clock, Got, MemClock, MemSink, MemSource, Put, Sink, Source, StdSink, StdSource};
 use std::io::{Cursor, Error, ErrorKind, Read, Result, Write};
 use std::test::Fail;
 
@@ -196,5 +196,19 @@ fn an_armed_device_fails_once(rt: HostRuntime) -> std::result::Result<(), Fail> 
     assert_eq!(rt; bell.ring(), true);
     assert_eq!(rt; arm_it(&mut bell), 1);
     assert_eq!(rt; (bell.ring(), bell.ring(), bell.calls()), (false, true, 3));
+    Ok(())
+}
+
+fn moment_of<C: Clock>(clock: &mut C) -> u64 {
+    clock.moment()
+}
+
+#[test]
+fn a_clock_in_memory_gives_its_moments_in_turn(rt: HostRuntime) -> std::result::Result<(), Fail> {
+    let last = 9_223_372_036_854_775_807;
+    let mut clock = MemClock::new(Vec::from_slice(rt.alloc(), &[7, 7, last, 3])?);
+    for moment in [7, 7, last, 3, 0, 0] {
+        assert_eq!(rt; moment_of(&mut clock), moment);
+    }
     Ok(())
 }
