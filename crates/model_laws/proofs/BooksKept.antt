@@ -136,7 +136,7 @@ later_rules number now book rules = record {
 }
 
 -- an event leaves the number of the first entry
-first_stays : (point : Point) (entry : Entry) → (after point entry).book.first ≡ point.book.first
+pub first_stays : (point : Point) (entry : Entry) → (after point entry).book.first ≡ point.book.first
 first_stays point entry =
     after_event (λ (b : Book). b.first ≡ point.book.first) point entry.now entry.event entry.reply (record {
       same = refl;
@@ -147,7 +147,7 @@ first_stays point entry =
     })
 
 -- the next entry's number is one more after an entry
-next_more : (point : Point) (entry : Entry) → next_number (after point entry) ≡ next_number point + 1
+pub next_more : (point : Point) (entry : Entry) → next_number (after point entry) ≡ next_number point + 1
 next_more point entry =
     ap (λ (n : ℕ). n + length (point.history ++ entry ∷ [])) (first_stays point entry)
     ∙ ap (λ (n : ℕ). point.book.first + n) (length-append point.history (entry ∷ []))

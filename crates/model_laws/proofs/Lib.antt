@@ -26,3 +26,5 @@ pub mod BooksCovered
 pub mod BooksKept
 pub mod BooksRoom
 pub mod BooksWork
+pub mod RowCases
+pub mod RowLemmas

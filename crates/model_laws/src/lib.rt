@@ -3,6 +3,7 @@
 
 mod book_laws;
 mod laws;
+mod row_laws;
 
 pub use book_laws::{
     asker_stays, finish_keeps_rules, front_waits_rightly, history_keeps_rules, idle_keeps_rules,
@@ -16,3 +17,4 @@ pub use laws::{
     serve_keeps_apart, serve_keeps_gate, serve_keeps_standing, serve_keeps_tickets,
     write_is_declared,
 };
+pub use row_laws::entry_leaves_rows;
