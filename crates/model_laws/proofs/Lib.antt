@@ -28,3 +28,4 @@ pub mod BooksRoom
 pub mod BooksWork
 pub mod RowCases
 pub mod RowLemmas
+pub mod StampLemmas

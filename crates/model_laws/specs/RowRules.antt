@@ -1,6 +1,6 @@
 -- What the laws of rows speak of: the row that an entry declares, the row that one was before an entry, and the end of a job that made it.
-use Rattle.std.specs.Prelude.{◌≡◌, ◌⊎◌, ℕ, Bool, true, false, List, Option, Some, None}
-use Rattle.std.specs.List.{Contains, list_all}
+use Rattle.std.specs.Prelude.{◌≡◌, ◌≢◌, ◌⊎◌, ◌<◌, ℕ, Bool, true, false, List, Option, Some, None}
+use Rattle.std.specs.List.{All, AllPairs, Contains, list_all, list_any}
 use Rattle.mat_tree.specs.declared.flat.Flat.{Flat}
 use Rattle.mat_tree.specs.Trees.{is_placed}
 use Rattle.mat_model.specs.declared.answers.Recorded.{Recorded}
@@ -17,7 +17,7 @@ use Rattle.mat_model.specs.declared.requests.Asked.TheVariants as asked
 use Rattle.mat_model.specs.Declarations.{declared_at, written_tree}
 use Rattle.mat_model.specs.Gate.{Served}
 use Rattle.mat_model.specs.History.{Point, answer, next_number}
-use Rattle.mat_model.specs.WorkState.{Job, running}
+use Rattle.mat_model.specs.WorkState.{Job, has_stamp, running}
 use Rattle.model_laws.specs.Laws.{declares}
 
 -- what the definitions serve for an entry at a point
@@ -92,3 +92,16 @@ pub record WasThere (point : Point) (what : Event) (given : Reply) (row : Row) :
 abbrev pub RowStep : Point → Entry → Row → Type 0
 RowStep point entry row =
     IsDeclaredBy point entry.event (served_at point entry).reply row ⊎ WasThere point entry.event (served_at point entry).reply row
+
+-- two rows differ in their stamps
+abbrev pub IsOtherStamp : Row → Row → Type 0
+IsOtherStamp row other = row.stamp ≢ other.stamp
+
+-- the stamps of some rows differ pairwise, and are below the number of the next entry
+pub record AreStampedBelow (next : ℕ) (rows : List Row) : Type 0 where
+  pub differ : AllPairs IsOtherStamp rows
+  pub below : All (λ (row : Row). row.stamp < next) rows
+
+-- no row has a stamp
+abbrev pub IsNoStamp : List Row → ℕ → Type 0
+IsNoStamp rows stamp = list_any (has_stamp stamp) rows ≡ false

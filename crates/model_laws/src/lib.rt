@@ -17,4 +17,7 @@ pub use laws::{
     serve_keeps_apart, serve_keeps_gate, serve_keeps_standing, serve_keeps_tickets,
     write_is_declared,
 };
-pub use row_laws::entry_leaves_rows;
+pub use row_laws::{
+    entry_keeps_stamps, entry_leaves_rows, gone_stamp_stays_gone, history_keeps_stamps,
+    opening_keeps_stamps, stamp_names_row,
+};
