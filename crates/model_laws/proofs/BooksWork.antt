@@ -20,14 +20,14 @@ use Rattle.model_laws.proofs.Elements.{found_contains}
 use Rattle.model_laws.proofs.Elements.{found_passes}
 
 -- something is found where an element passes
-found_some : {A : Type 0} (p : A → Bool) (xs : List A) → list_any p xs ≡ true → is_some (find p xs) ≡ true
+pub found_some : {A : Type 0} (p : A → Bool) (xs : List A) → list_any p xs ≡ true → is_some (find p xs) ≡ true
 found_some p [] any = absurd cc
 found_some {A = A} p (x ∷ xs) any =
     elim (p x) as (λ b. (b || list_any p xs) ≡ true → is_some (cond b (Some x) (find p xs)) ≡ true)
     [ true ↦ λ here. refl | false ↦ λ more. found_some p xs more ] any
 
 -- the first of two tasks is there, or the second
-first_some : (first second : Option Task) → is_some first ≡ true → is_some (option_or first second) ≡ true
+pub first_some : (first second : Option Task) → is_some first ≡ true → is_some (option_or first second) ≡ true
 first_some None second is = absurd cc
 first_some (Some one) second is = refl
 
@@ -35,7 +35,7 @@ second_some : (first second : Option Task) → is_some second ≡ true → is_so
 second_some None second is = is
 second_some (Some one) second is = refl
 
-wipe_some : (o : Option Debris) → is_some o ≡ true → is_some (option_map wipe_of o) ≡ true
+pub wipe_some : (o : Option Debris) → is_some o ≡ true → is_some (option_map wipe_of o) ≡ true
 wipe_some None is = absurd cc
 wipe_some (Some debris) is = refl
 

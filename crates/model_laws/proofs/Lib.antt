@@ -29,3 +29,4 @@ pub mod BooksWork
 pub mod RowCases
 pub mod RowLemmas
 pub mod StampLemmas
+pub mod FirstLemmas

@@ -1,2 +1,3 @@
 pub mod Laws
 pub mod RowRules
+pub mod FirstRules

@@ -2,6 +2,7 @@
 #![tactic(auto)]
 
 mod book_laws;
+mod first_laws;
 mod laws;
 mod row_laws;
 
@@ -10,6 +11,7 @@ pub use book_laws::{
     open_ticket_gives_work, open_ticket_waits, opening_keeps_rules, refuse_keeps_rules,
     room_keeps_queue, serve_keeps_rules, somebody_is_live,
 };
+pub use first_laws::{first_make_may_begin, first_wipe_may_begin, nothing_first_is_drained};
 pub use laws::{
     answer_stays, finish_answers_truly, finish_keeps_apart, finish_keeps_standing,
     finish_keeps_tickets, first_make_answers, history_keeps_apart, history_keeps_gate,
