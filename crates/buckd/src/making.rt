@@ -60,7 +60,7 @@ fn fetch(store: &mut MemStore, wanted: Digest) -> Result<Brought, Memory>
     ensures asks { store_asks store.new ≡ risen (store_asks store.old) }
 {
     match store.fetch(&wanted) {
-        Fetched::Bytes(bytes) => Ok(checked(wanted, bytes)),
+        Fetched::Bytes(bytes) => Ok(checked(wanted, bytes.into_vec())),
         Fetched::Absent => Ok(Brought::Failure(Outcome::Missing(wanted))),
         Fetched::Failed => Err(Memory),
         Fetched::NoMemory => Err(Memory),

@@ -1,3 +1,5 @@
 pub mod Fetches
+pub mod Gates
 pub mod Keys
 pub mod Memory
+pub mod Watches

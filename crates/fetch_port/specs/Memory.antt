@@ -6,6 +6,7 @@ use Rattle.mat_digest.specs.declared.digest.Digest.{Digest}
 use Rattle.fetch_port.specs.declared.mem_store.MemStore.{MemStore}
 use Rattle.fetch_port.specs.Fetches.{Blobs}
 use Rattle.fetch_port.specs.Keys.{key_cmp, key_of}
+use Rattle.fetch_port.specs.Watches.{Watch}
 
 -- the bytes that a store in memory holds under a digest
 abbrev pub blobs_of : MemStore → Blobs
@@ -23,6 +24,17 @@ store_faults store = store.faults
 
 abbrev pub is_store_armed : MemStore → Bool
 is_store_armed store = store.armed
+
+-- its calls, and whether the next one is to fail
+abbrev pub store_watch : MemStore → Watch
+store_watch store = record { calls = store.calls; armed = store.armed }
+
+-- a store has counted nothing, and its next call isn't to fail
+pub record IsFresh (store : MemStore) : Type 0 where
+  pub asks : store.asks ≡ 0
+  pub faults : store.faults ≡ 0
+  pub calls : store.calls ≡ 0
+  pub armed : store.armed ≡ false
 
 -- these bytes were put under a digest, and what stands under each other digest stayed
 pub record HasPut (digest : Digest) (bytes : List ℕ) (old new : MemStore) : Type 0 where
