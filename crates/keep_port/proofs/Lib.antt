@@ -1,2 +1,3 @@
 pub mod Ordered
+pub mod Places
 pub mod Steps

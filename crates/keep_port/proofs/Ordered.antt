@@ -1,5 +1,5 @@
 -- Rows stay in order through each call.
-use Rattle.std.proofs.Common.{◌≡◌, ℕ, Bool, true, false, ◌&&◌, cond, List, [], ◌∷◌, ◌++◌, map, refl, sym, ap, ap₂, ◌∙◌, subst}
+use Rattle.std.proofs.Common.{◌≡◌, ℕ, Bool, true, false, ◌&&◌, cond, List, [], ◌∷◌, ◌++◌, map, refl, ap, ap₂, ◌∙◌}
 use Rattle.std.proofs.lemmas.Bool.{and_from}
 use Rattle.std.proofs.lemmas.Cmp.{nat_list_cmp_total}
 use Rattle.std.proofs.lemmas.List.Folds.{list_all-append}
@@ -87,7 +87,7 @@ ascend_put_all rows (row ∷ more) e = ascend_put_all (put rows row) more (ascen
 
 -- ---- another last use
 
-same_path : (path : List ℕ) (last : ℕ) (row : RawRow) → (touched path last row).path ≡ row.path
+pub same_path : (path : List ℕ) (last : ℕ) (row : RawRow) → (touched path last row).path ≡ row.path
 same_path path last row = by (same_name row.path path)
   where
     by : (b : Bool) → (let r : RawRow = cond b (record { path = row.path; body = row.body; last = last }) row in r.path) ≡ row.path

@@ -82,7 +82,7 @@ impl Keeper for MemKeeper {
         ensures watch { keeper_watch self.new ≡ after_call (keeper_watch self.old) }
         ensures fails { did_failed result ≡ will_fail (keeper_watch self.old) }
         ensures halts { Halts (Some (keeper_watch self.old)) (did_want result) }
-        ensures faults { keeper_faults self.new ≡ faults_after (did_failed result) (keeper_faults self.old) }
+        ensures counts { keeper_faults self.new ≡ faults_after (did_failed result) (keeper_faults self.old) }
     {
         if let Some(answer) = self.begin() {
             return answer;
@@ -102,7 +102,7 @@ impl Keeper for MemKeeper {
         ensures watch { keeper_watch self.new ≡ after_call (keeper_watch self.old) }
         ensures fails { did_failed result ≡ will_fail (keeper_watch self.old) }
         ensures halts { Halts (Some (keeper_watch self.old)) (did_want result) }
-        ensures faults { keeper_faults self.new ≡ faults_after (did_failed result) (keeper_faults self.old) }
+        ensures counts { keeper_faults self.new ≡ faults_after (did_failed result) (keeper_faults self.old) }
     {
         if let Some(answer) = self.begin() {
             return answer;
@@ -123,7 +123,7 @@ impl Keeper for MemKeeper {
         ensures watch { keeper_watch self.new ≡ after_call (keeper_watch self.old) }
         ensures fails { all_failed result ≡ will_fail (keeper_watch self.old) }
         ensures halts { Halts (Some (keeper_watch self.old)) (all_want result) }
-        ensures faults { keeper_faults self.new ≡ faults_after (all_failed result) (keeper_faults self.old) }
+        ensures counts { keeper_faults self.new ≡ faults_after (all_failed result) (keeper_faults self.old) }
     {
         match self.begin() {
             Some(Did::Failed) => All::Failed,

@@ -2,7 +2,7 @@ ghost use Rattle.std.specs.Prelude.{◌≡◌, ℕ, Bool, false, List, Option};
 ghost use Rattle.std.specs.Option.{option_map};
 ghost use Rattle.mat_io.specs.Answers.{did_failed};
 ghost use Rattle.mat_io.specs.Causes.{HasCause};
-ghost use Rattle.keep_port.specs.Rows.{FailsSo, Halts, Tells, Watch, after_call, after_remove, after_store, all_failed, all_want, did_want};
+ghost use Rattle.keep_port.specs.Rows.{CountsSo, FailsSo, Halts, Tells, Watch, after_call, after_remove, after_store, all_failed, all_want, did_want};
 ghost use Rattle.keep_port.specs.declared.row.RawRow.{RawRow};
 
 use crate::row::{All, RawRow, Touch};
@@ -26,6 +26,7 @@ pub trait Keeper {
         ensures cause { HasCause (fault_count self.old) (fault_count self.new) (did_failed result) }
         ensures watch { watch self.new ≡ option_map after_call (watch self.old) }
         ensures fails { FailsSo (watch self.old) (did_failed result) }
+        ensures counts { CountsSo (watch self.old) (fault_count self.old) (fault_count self.new) (did_failed result) }
         ensures halts { Halts (watch self.old) (did_want result) };
 
     /// Removes the rows at some paths. Every other row stays.
@@ -34,6 +35,7 @@ pub trait Keeper {
         ensures cause { HasCause (fault_count self.old) (fault_count self.new) (did_failed result) }
         ensures watch { watch self.new ≡ option_map after_call (watch self.old) }
         ensures fails { FailsSo (watch self.old) (did_failed result) }
+        ensures counts { CountsSo (watch self.old) (fault_count self.old) (fault_count self.new) (did_failed result) }
         ensures halts { Halts (watch self.old) (did_want result) };
 
     /// Gives all rows, ascending by the bytes of their paths. Every row stays.
@@ -43,6 +45,7 @@ pub trait Keeper {
         ensures cause { HasCause (fault_count self.old) (fault_count self.new) (all_failed result) }
         ensures watch { watch self.new ≡ option_map after_call (watch self.old) }
         ensures fails { FailsSo (watch self.old) (all_failed result) }
+        ensures counts { CountsSo (watch self.old) (fault_count self.old) (fault_count self.new) (all_failed result) }
         ensures halts { Halts (watch self.old) (all_want result) };
 
     /// How many faults there were. It takes no memory.
