@@ -2,4 +2,3 @@ pub mod Fetches
 pub mod Gates
 pub mod Keys
 pub mod Memory
-pub mod Watches

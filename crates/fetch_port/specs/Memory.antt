@@ -6,7 +6,7 @@ use Rattle.mat_digest.specs.declared.digest.Digest.{Digest}
 use Rattle.fetch_port.specs.declared.mem_store.MemStore.{MemStore}
 use Rattle.fetch_port.specs.Fetches.{Blobs}
 use Rattle.fetch_port.specs.Keys.{key_cmp, key_of}
-use Rattle.fetch_port.specs.Watches.{Watch}
+use Rattle.mat_io.specs.Watches.{Watch}
 
 -- the bytes that a store in memory holds under a digest
 abbrev pub blobs_of : MemStore → Blobs

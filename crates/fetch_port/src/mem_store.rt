@@ -7,7 +7,7 @@ ghost use Rattle.mat_digest.specs.declared.digest.Digest.{Digest as TheDigest};
 ghost use Rattle.mat_io.specs.Causes.{HasCause, faults_after, risen};
 ghost use Rattle.fetch_port.specs.Fetches.{Fetches, FetchesPiece, asks_after, fetch_failed, held_at};
 ghost use Rattle.fetch_port.specs.Keys.{key_cmp, key_of};
-ghost use Rattle.fetch_port.specs.Watches.{after_call};
+ghost use Rattle.mat_io.specs.Watches.{after_call};
 
 use crate::fetched::Fetched;
 use crate::key::Key;

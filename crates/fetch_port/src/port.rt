@@ -2,7 +2,7 @@ ghost use Rattle.std.specs.Prelude.{◌≡◌, ℕ, Option};
 ghost use Rattle.std.specs.Option.{option_map};
 ghost use Rattle.mat_io.specs.Causes.{HasCause, risen};
 ghost use Rattle.fetch_port.specs.Fetches.{Blobs, Fetches, FetchesPiece, asks_after, fetch_failed, held_at};
-ghost use Rattle.fetch_port.specs.Watches.{CountsSo, FailsSo, Watch, after_call};
+ghost use Rattle.mat_io.specs.Watches.{CountsSo, FailsSo, Watch, after_call};
 
 use crate::fetched::Fetched;
 use mat_digest::Digest;

@@ -2,7 +2,7 @@
 use Rattle.std.specs.Prelude.{◌≡◌, ℕ, Bool, true, false, not, ◌&&◌, if◌then◌else◌, List, [], ◌∷◌, ◌++◌, map, Option, Some, None}
 use Rattle.std.specs.List.{filter, list_all}
 use Rattle.std.specs.Ordering.{is_lt}
-use Rattle.mat_io.specs.Causes.{faults_after, risen}
+use Rattle.mat_io.specs.Causes.{risen}
 use Rattle.mat_io.specs.declared.answer.Did.{Did}
 use Rattle.mat_io.specs.declared.answer.Did.TheVariants as did
 use Rattle.mat_path.specs.Names.{joined, name_cmp, same_name}
@@ -113,11 +113,6 @@ will_fail watch = watch.armed && not watch.halted
 abbrev pub FailsSo : Option Watch → Bool → Type 0
 FailsSo None failed = Unit {0}
 FailsSo (Some watch) failed = failed ≡ will_fail watch
-
--- the faults rise by one in a call that fails and in no other, if that is told
-abbrev pub CountsSo : Option Watch → ℕ → ℕ → Bool → Type 0
-CountsSo None before now failed = Unit {0}
-CountsSo (Some watch) before now failed = now ≡ faults_after failed before
 
 -- whether an answer is want of memory
 abbrev pub did_want : Did → Bool

@@ -2,7 +2,8 @@ ghost use Rattle.std.specs.Prelude.{◌≡◌, ℕ, Bool, false, List, Option};
 ghost use Rattle.std.specs.Option.{option_map};
 ghost use Rattle.mat_io.specs.Answers.{did_failed};
 ghost use Rattle.mat_io.specs.Causes.{HasCause};
-ghost use Rattle.keep_port.specs.Rows.{CountsSo, FailsSo, Halts, Tells, Watch, after_call, after_remove, after_store, all_failed, all_want, did_want};
+ghost use Rattle.mat_io.specs.Watches.{CountsSo};
+ghost use Rattle.keep_port.specs.Rows.{FailsSo, Halts, Tells, Watch, after_call, after_remove, after_store, all_failed, all_want, did_want};
 ghost use Rattle.keep_port.specs.declared.row.RawRow.{RawRow};
 
 use crate::row::{All, RawRow, Touch};

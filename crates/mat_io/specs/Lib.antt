@@ -4,3 +4,4 @@ pub mod Causes
 pub mod Clocks
 pub mod Memory
 pub mod Streams
+pub mod Watches
