@@ -17,20 +17,20 @@ use Rattle.mat_tree.specs.Trees.{ascends, is_after, is_at, what_of}
 use Rattle.write_plan.specs.declared.act.Act.{Act}
 use Rattle.write_plan.specs.declared.act.Act.TheVariants as act
 use Rattle.write_plan.specs.declared.method.Method.{Method}
-use Rattle.write_plan.specs.Carried.{AreRight, Bytes, IsRightFor, carry, carry_one}
+use Rattle.write_plan.specs.Carried.{AreRightAt, BytesAt, IsRightFor, carry_at, carry_one_at}
 use Rattle.write_plan.specs.Plans.{act_of, act_what, plan_of}
 
 -- acts one behind the other
-carry-append : (bytes : Bytes) (first second : List Act) (part : Part) → carry bytes (first ++ second) part ≡ carry bytes second (carry bytes first part)
+carry-append : (bytes : BytesAt) (first second : List Act) (part : Part) → carry_at bytes (first ++ second) part ≡ carry_at bytes second (carry_at bytes first part)
 carry-append bytes [] second part = refl
-carry-append bytes (one ∷ first) second part = carry-append bytes first second (carry_one bytes one part)
+carry-append bytes (one ∷ first) second part = carry-append bytes first second (carry_one_at bytes one part)
 
 -- what a part has at a rel once a node was put
-put_at : (way : Method) (lent : Bool) (bytes : Bytes) (at : List (List ℕ)) (w : What) (part : Part) (rel : List (List ℕ)) → IsRightFor bytes w →
-    option_map declared_by (carry_one bytes (act_what way lent at w) part rel) ≡ cond (same_names rel at) (Some w) (option_map declared_by (part rel))
+put_at : (way : Method) (lent : Bool) (bytes : BytesAt) (at : List (List ℕ)) (w : What) (part : Part) (rel : List (List ℕ)) → IsRightFor (bytes at) w →
+    option_map declared_by (carry_one_at bytes (act_what way lent at w) part rel) ≡ cond (same_names rel at) (Some w) (option_map declared_by (part rel))
 put_at way lent bytes at (what.File digest exec) part rel right =
     elim (same_names rel at) as
-    (λ b. option_map declared_by (cond b (Some (file (bytes digest) exec)) (part rel)) ≡ cond b (Some (what.File digest exec)) (option_map declared_by (part rel)))
+    (λ b. option_map declared_by (cond b (Some (file (bytes at digest) exec)) (part rel)) ≡ cond b (Some (what.File digest exec)) (option_map declared_by (part rel)))
     [ true ↦ ap (λ (d : Digest). Some (what.File d exec)) right | false ↦ refl ]
 put_at way lent bytes at what.Dir part rel right =
     elim (same_names rel at) as
@@ -68,11 +68,11 @@ or_else None before = before
 or_else (Some node) before = Some node.what
 
 -- what a part has at a rel once ascending nodes were put
-put_all : (way : Method) (lent : Bool) (bytes : Bytes) (nodes : List Flat) (part : Part) (rel : List (List ℕ)) → ascends nodes ≡ true → AreRight bytes nodes →
-    option_map declared_by (carry bytes (map (act_of way lent) nodes) part rel) ≡ or_else (find (is_at rel) nodes) (option_map declared_by (part rel))
+put_all : (way : Method) (lent : Bool) (bytes : BytesAt) (nodes : List Flat) (part : Part) (rel : List (List ℕ)) → ascends nodes ≡ true → AreRightAt bytes nodes →
+    option_map declared_by (carry_at bytes (map (act_of way lent) nodes) part rel) ≡ or_else (find (is_at rel) nodes) (option_map declared_by (part rel))
 put_all way lent bytes [] part rel up right = refl
 put_all way lent bytes (node ∷ nodes) part rel up right =
-    put_all way lent bytes nodes (carry_one bytes (act_of way lent node) part) rel (second_so (list_all (is_after node.rel) nodes) (ascends nodes) up) right.1
+    put_all way lent bytes nodes (carry_one_at bytes (act_of way lent node) part) rel (second_so (list_all (is_after node.rel) nodes) (ascends nodes) up) right.1
     ∙ ap (or_else (find (is_at rel) nodes)) (put_at way lent bytes node.rel node.what part rel right.0)
     ∙ by (same_names node.rel rel) refl
   where
@@ -91,8 +91,8 @@ put_all way lent bytes (node ∷ nodes) part rel up right =
         ap (λ (b : Bool). or_else (find (is_at rel) nodes) (cond b (Some node.what) (option_map declared_by (part rel)))) (symm node.rel rel ∙ off)
 
 -- a plan that is carried out with the right bytes makes any part have its tree
-pub plan_holds : (nodes : List Flat) (way : Method) (lent : Bool) (bytes : Bytes) (part : Part) → ascends nodes ≡ true → AreRight bytes nodes →
-    HasTree (carry bytes (plan_of nodes way lent) part) nodes
+pub plan_holds : (nodes : List Flat) (way : Method) (lent : Bool) (bytes : BytesAt) (part : Part) → ascends nodes ≡ true → AreRightAt bytes nodes →
+    HasTree (carry_at bytes (plan_of nodes way lent) part) nodes
 plan_holds nodes way lent bytes part up right = λ rel.
     ap (λ (p : Part). option_map declared_by (p rel)) (carry-append bytes (map (act_of way lent) nodes) (act.Sync ∷ []) bare)
     ∙ put_all way lent bytes nodes bare rel up right

@@ -4,7 +4,7 @@ ghost use Rattle.std.specs.List.{list_all};
 ghost use Rattle.mat_path.specs.Names.{is_rel};
 ghost use Rattle.mat_tree.specs.Parts.{HasTree, Part};
 ghost use Rattle.mat_tree.specs.Trees.{IsTree};
-ghost use Rattle.write_plan.specs.Carried.{AreRight, Bytes, carry};
+ghost use Rattle.write_plan.specs.Carried.{AreRightAt, BytesAt, carry_at};
 ghost use Rattle.write_plan.specs.Plans.{act_of, is_empty, lends_at, lends_node, may_lend, method_supply, origin_supply, plan_of, supply_of};
 
 use crate::act::{Act, Supply};
@@ -18,11 +18,12 @@ use std::alloc::Global;
 /// file come from the row, from the store or, where `lent` says that it is lent, from the part that the row was copied
 /// from; an empty file needs none.
 ///
-/// Carried out with bytes of the declared digests, they make a part have the tree, whatever it had before.
+/// Carried out with bytes of the declared digests, which may be other ones for each file of a digest, they make a part have the
+/// tree, whatever it had before.
 pub fn plan(alloc: Global, tree: &Tree, method: &Method, lent: bool) -> Result<Vec<Act>, Memory>
     requires { may_lend method.now lent tree.now ≡ true }
     ensures ok { IfOk result (λ acts. acts.items ≡ plan_of tree.now method.now lent) }
-    ensures holds { IfOk result (λ acts. (bytes : Bytes) (part : Part) → AreRight bytes tree.now → HasTree (carry bytes acts.items part) tree.now) }
+    ensures holds { IfOk result (λ acts. (bytes : BytesAt) (part : Part) → AreRightAt bytes tree.now → HasTree (carry_at bytes acts.items part) tree.now) }
 {
     acts_of(alloc, tree, method, lent)
 }

@@ -1,6 +1,9 @@
+ghost use Rattle.std.specs.Prelude.{◌≡◌, true, IfOk};
+ghost use Rattle.write_plan.specs.Plans.{lends_at, may_lend};
+
 use crate::{Act, Method, Origin, Supply, plan};
 use mat_digest::Digest;
-use mat_path::{Items, Path, Rel, Target};
+use mat_path::{Items, JoinRefusal, Memory, Path, Rel, Target};
 use mat_tree::{Flat, Tree, What};
 use std::alloc::Global;
 use std::test::Fail;
@@ -25,7 +28,7 @@ fn tree(alloc: Global) -> Result<Tree, Fail> {
     nodes.push(node(alloc, b"empty", file(b"", false))?)?;
     nodes.push(node(alloc, b"to", What::Link(Target::read(alloc, b"app")?))?)?;
     if !Flat::are_small(nodes.as_slice()) {
-        return Err(Fail::from(mat_path::Memory));
+        return Err(Fail::from(Memory));
     }
     Ok(Tree::from_flat(alloc, nodes.as_slice())?)
 }
@@ -77,6 +80,71 @@ fn parents_come_first_and_bytes_from_their_way(rt: HostRuntime) -> Result<(), Fa
         for (place, act) in acts.iter().enumerate() {
             assert_eq!(rt; letters(act), want[place]);
         }
+    }
+    Ok(())
+}
+
+/// Whether a part that is lent has a rel for what stands at a rel of the tree.
+fn lends_at(method: &Method, rel: &Rel) -> Result<bool, Memory>
+    ensures { IfOk result (λ lends. lends ≡ lends_at method.now true rel.now) }
+{
+    match method {
+        Method::Write(_) => Ok(false),
+        Method::Fetch => Ok(false),
+        Method::Copy { rest, .. } => match rest.join(rel) {
+            Ok(_) => Ok(true),
+            Err(JoinRefusal::Long) => Ok(false),
+            Err(JoinRefusal::NoMemory) => Err(Memory),
+        },
+    }
+}
+
+/// The same for each of some nodes.
+fn may_lend(method: &Method, nodes: &[Flat]) -> Result<bool, Memory>
+    ensures { IfOk result (λ may. may ≡ may_lend method.now true nodes.now) }
+{
+    for node in nodes {
+        if !lends_at(method, &node.rel)? {
+            return Ok(false);
+        }
+    }
+    Ok(true)
+}
+
+/// An act in words: for a file its rel, and for a loan the rel that is read.
+fn words(alloc: Global, act: &Act) -> Result<Vec<u8>, Fail> {
+    let mut text = Vec::from_slice(alloc, letters(act).as_bytes())?;
+    if let Act::File { rel, from, .. } = act {
+        text.push(b' ')?;
+        text.extend_from_slice(rel.write()?.as_slice())?;
+        if let Supply::Loan(place) = from {
+            text.push(b' ')?;
+            text.extend_from_slice(place.write()?.as_slice())?;
+        }
+    }
+    Ok(text)
+}
+
+#[test]
+fn a_lent_part_is_read_below_its_rest(rt: HostRuntime) -> Result<(), Fail> {
+    let alloc = rt.alloc();
+    let tree = tree(alloc)?;
+    let method = copied(alloc, Origin::Store)?;
+    if !may_lend(&method, tree.flat()?.as_slice())? {
+        return Err(Fail::from(Memory));
+    }
+    let acts = plan(alloc, &tree, &method, true)?;
+    let want: [&[u8]; 6] = [
+        b"wipe",
+        b"dir",
+        b"loan app bin/app",
+        b"empty empty",
+        b"link",
+        b"sync",
+    ];
+    assert_eq!(rt; acts.len(), want.len());
+    for (act, words_wanted) in acts.iter().zip(want.iter()) {
+        assert_eq!(rt; words(alloc, act)?.as_slice(), *words_wanted);
     }
     Ok(())
 }

@@ -8,7 +8,7 @@ use Rattle.mat_model.specs.declared.entries.Outcome.TheVariants as outcome
 use Rattle.fetch_port.specs.Memory.{blobs_of}
 use Rattle.region_port.specs.Disks.{disk_content, disk_rough}
 use Rattle.region_port.specs.Memory.{part_of, rough_of}
-use Rattle.write_plan.specs.Carried.{carry}
+use Rattle.write_plan.specs.Carried.{carry, everywhere}
 use Rattle.write_plan.specs.Plans.{act_of, plan_of}
 use Rattle.write_plan.specs.declared.act.Act.{Act}
 use Rattle.write_plan.specs.declared.act.Act.TheVariants as act
@@ -59,7 +59,8 @@ returns-clause-holds c =
     (λ ended carried ends made.
     holds_given c.args.path.now (part_of c.carry_out-outcome.new.region) (disk_content c.args.disk.now) (disk_content c.give.new.self) c.args.tree.now (given c)
     (holds_made (blobs_of c.args.store.now) c.args.method.now c.args.tree.now c.as_slice.result.now c.in_ok-acts.acts.items (part_of c.in_ok-region.region)
-    (part_of c.carry_out-outcome.new.region) ended c.requires.bytes c.as_slice.ensures.value c.in_ok-acts.ensures.ok c.in_ok-acts.ensures.holds carried ends made))
+    (part_of c.carry_out-outcome.new.region) ended c.requires.bytes c.as_slice.ensures.value c.in_ok-acts.ensures.ok
+    (λ bytes. c.in_ok-acts.ensures.holds (everywhere bytes)) carried ends made))
     c.carry_out-outcome.ensures.part c.carry_out-outcome.ensures.outcome
 
 pub returns-clause-synced : goal.returns-clause-synced
