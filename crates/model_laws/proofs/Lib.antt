@@ -30,3 +30,4 @@ pub mod RowCases
 pub mod RowLemmas
 pub mod StampLemmas
 pub mod FirstLemmas
+pub mod BelowLemmas

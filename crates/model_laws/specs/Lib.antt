@@ -1,3 +1,4 @@
 pub mod Laws
 pub mod RowRules
 pub mod FirstRules
+pub mod TicketRules

@@ -5,6 +5,7 @@ mod book_laws;
 mod first_laws;
 mod laws;
 mod row_laws;
+mod ticket_laws;
 
 pub use book_laws::{
     asker_stays, finish_keeps_rules, front_waits_rightly, history_keeps_rules, idle_keeps_rules,
@@ -22,4 +23,9 @@ pub use laws::{
 pub use row_laws::{
     entry_keeps_stamps, entry_leaves_rows, gone_stamp_stays_gone, history_keeps_stamps,
     opening_keeps_stamps, stamp_names_row,
+};
+pub use ticket_laws::{
+    clean_answers_nobody, failed_rows_answer_below, invalid_rows_answer_below,
+    made_row_answers_below, open_ticket_is_below_bare_path, overlapping_rows_answer_below,
+    removed_rows_answer_below, replaced_rows_answer_below, row_above_open_ticket_covers,
 };
