@@ -1,11 +1,14 @@
 -- Rows stay in order through each call.
-use Rattle.std.proofs.Common.{◌≡◌, ℕ, Bool, true, false, ◌&&◌, cond, List, [], ◌∷◌, ◌++◌, map, refl, ap, ap₂, ◌∙◌}
+use Rattle.std.proofs.Common.{◌≡◌, ◌≤◌, ℕ, Bool, true, false, not, ◌&&◌, cond, List, [], ◌∷◌, ◌++◌, length, map, refl, sym, ap, ap₂, ◌∙◌, subst, arith}
+use Rattle.std.proofs.Math.Seq.{drop-append_seam, take-append_seam}
 use Rattle.std.proofs.lemmas.Bool.{and_from}
 use Rattle.std.proofs.lemmas.Cmp.{nat_list_cmp_total}
+use Rattle.std.proofs.lemmas.List.{length-append}
+use Rattle.std.proofs.lemmas.Map.Text.{is_eq-slice_cmp}
 use Rattle.std.proofs.lemmas.List.Folds.{list_all-append}
 use Rattle.std.specs.Cmp.{first_so, second_so}
-use Rattle.std.specs.List.{filter, list_all}
-use Rattle.std.specs.Ordering.{is_lt}
+use Rattle.std.specs.List.{filter, insert, list_all}
+use Rattle.std.specs.Ordering.{is_eq, is_lt, ordering_reverse}
 use Rattle.std.specs.declared.cmp.Ordering.{Ordering}
 use Rattle.std.specs.declared.cmp.Ordering.TheVariants.{Less, Equal, Greater}
 use Rattle.mat_path.specs.Names.{joined, name_cmp, same_name}
@@ -75,7 +78,7 @@ ascend_behind (x ∷ rows) row ys e f =
         (all_greater x.path row.path ys h (first_so (list_all (is_greater row.path) ys) (ascend ys) f)))) rest
     by false h rest = rest
 
-ascend_put : (rows : List RawRow) (row : RawRow) → ascend rows ≡ true → ascend (put rows row) ≡ true
+pub ascend_put : (rows : List RawRow) (row : RawRow) → ascend rows ≡ true → ascend (put rows row) ≡ true
 ascend_put rows row e =
     ascend_behind rows row (filter (is_greater row.path) rows) e
     (and_from (list_all (is_greater row.path) (filter (is_greater row.path) rows)) (ascend (filter (is_greater row.path) rows))
@@ -84,6 +87,56 @@ ascend_put rows row e =
 ascend_put_all : (rows more : List RawRow) → ascend rows ≡ true → ascend (put_all rows more) ≡ true
 ascend_put_all rows [] e = e
 ascend_put_all rows (row ∷ more) e = ascend_put_all (put rows row) more (ascend_put rows row e)
+
+-- ---- the place of one row more
+
+none_less : (path : List ℕ) (rows : List RawRow) → list_all (is_greater path) rows ≡ true → filter (is_less path) rows ≡ []
+none_less path [] all = refl
+none_less path (row ∷ rows) all =
+    let less : name_cmp path row.path ≡ Less = lt_is (name_cmp path row.path) (first_so (is_greater path row) (list_all (is_greater path) rows) all) in
+    let more : is_less path row ≡ false = ap is_lt (nat_list_cmp_total.antisymm row.path path ∙ ap ordering_reverse less) in
+    ap (λ (b : Bool). cond b (row ∷ filter (is_less path) rows) (filter (is_less path) rows)) more
+    ∙ none_less path rows (second_so (is_greater path row) (list_all (is_greater path) rows) all)
+
+-- ordered rows at other paths are those before a path and then those behind it
+sides : (path : List ℕ) (rows : List RawRow) → ascend rows ≡ true →
+    filter (is_elsewhere path) rows ≡ filter (is_less path) rows ++ filter (is_greater path) rows
+sides path [] up = refl
+sides path (row ∷ rows) up =
+    let o : Ordering = name_cmp row.path path in
+    let back : name_cmp path row.path ≡ ordering_reverse o = nat_list_cmp_total.antisymm path row.path in
+    let same : same_name row.path path ≡ is_eq o = sym (is_eq-slice_cmp row.path path) in
+    ap (λ (b : Bool). cond (not b) (row ∷ filter (is_elsewhere path) rows) (filter (is_elsewhere path) rows)) same
+    ∙ by o refl (sides path rows (second_so (list_all (is_greater row.path) rows) (ascend rows) up))
+    ∙ sym (ap (λ (p : Ordering). cond (is_lt o) (row ∷ filter (is_less path) rows) (filter (is_less path) rows)
+    ++ cond (is_lt p) (row ∷ filter (is_greater path) rows) (filter (is_greater path) rows)) back)
+  where
+    by : (o : Ordering) → name_cmp row.path path ≡ o → filter (is_elsewhere path) rows ≡ filter (is_less path) rows ++ filter (is_greater path) rows →
+        cond (not (is_eq o)) (row ∷ filter (is_elsewhere path) rows) (filter (is_elsewhere path) rows)
+        ≡ cond (is_lt o) (row ∷ filter (is_less path) rows) (filter (is_less path) rows)
+        ++ cond (is_lt (ordering_reverse o)) (row ∷ filter (is_greater path) rows) (filter (is_greater path) rows)
+    by Less is rest = ap (λ (list : List RawRow). row ∷ list) rest
+    by Equal is rest = rest
+    by Greater is rest =
+        let above : is_lt (name_cmp path row.path) ≡ true = ap is_lt (nat_list_cmp_total.antisymm path row.path ∙ ap ordering_reverse is) in
+        let none : filter (is_less path) rows ≡ [] =
+        none_less path rows (all_greater path row.path rows above (first_so (list_all (is_greater row.path) rows) (ascend rows) up)) in
+        subst (λ (less : List RawRow). filter (is_elsewhere path) rows ≡ less ++ filter (is_greater path) rows →
+        (row ∷ filter (is_elsewhere path) rows) ≡ less ++ row ∷ filter (is_greater path) rows) (sym none)
+        (λ e. ap (λ (list : List RawRow). row ∷ list) e) rest
+
+pub place_fits : (path : List ℕ) (rows : List RawRow) → ascend rows ≡ true → length (filter (is_less path) rows) ≤ length (filter (is_elsewhere path) rows)
+place_fits path rows up =
+    subst (λ (list : List RawRow). length (filter (is_less path) rows) ≤ length list) (sym (sides path rows up))
+    (subst (λ (n : ℕ). length (filter (is_less path) rows) ≤ n) (sym (length-append (filter (is_less path) rows) (filter (is_greater path) rows))) (omega arith))
+
+pub put_placed : (rows : List RawRow) (row : RawRow) → ascend rows ≡ true →
+    insert (filter (is_elsewhere row.path) rows) (length (filter (is_less row.path) rows)) row ≡ put rows row
+put_placed rows row up =
+    ap (λ (list : List RawRow). insert list (length (filter (is_less row.path) rows)) row) (sides row.path rows up)
+    ∙ ap₂ (λ (less greater : List RawRow). less ++ row ∷ greater)
+    (take-append_seam (filter (is_less row.path) rows) (filter (is_greater row.path) rows))
+    (drop-append_seam (filter (is_less row.path) rows) (filter (is_greater row.path) rows))
 
 -- ---- another last use
 

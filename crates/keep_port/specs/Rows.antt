@@ -24,10 +24,6 @@ abbrev pub ascend : List RawRow → Bool
 ascend [] = true
 ascend (row ∷ rows) = list_all (is_greater row.path) rows && ascend rows
 
--- a row alone where a test was passed, else none
-abbrev pub kept_if : Bool → RawRow → List RawRow
-kept_if test row = if test then row ∷ [] else []
-
 -- rows with one more, which stands in the place of one at its path
 abbrev pub put : List RawRow → RawRow → List RawRow
 put rows row = filter (is_less row.path) rows ++ row ∷ filter (is_greater row.path) rows

@@ -1,7 +1,7 @@
 // The rows after a call, made anew, so that a call that wants memory leaves the old ones.
-ghost use Rattle.std.specs.Prelude.{◌≡◌, ◌++◌, ◌∷◌, [], true, false, map, IfOk, OnOk, Some};
+ghost use Rattle.std.specs.Prelude.{◌≡◌, ◌++◌, ◌∷◌, [], true, false, map, length, IfOk, OnOk, Some};
 ghost use Rattle.std.specs.List.{filter};
-ghost use Rattle.keep_port.specs.Rows.{Tells, all_failed, ascend, is_elsewhere, is_greater, is_less, kept_if, put, put_all, remove_all, touch_all, touched};
+ghost use Rattle.keep_port.specs.Rows.{Tells, all_failed, ascend, is_elsewhere, is_less, put, put_all, remove_all, touch_all, touched};
 
 use crate::row::{All, RawRow, Touch};
 use mat_path::{Items, Memory, Path};
@@ -54,72 +54,40 @@ fn is_less(path: &[u8], row: &RawRow) -> bool
     row.path.as_slice().cmp(path).is_lt()
 }
 
-// Whether the path of a row comes behind a path.
-fn is_greater(path: &[u8], row: &RawRow) -> bool
-    ensures { result ≡ is_greater path.now row.now }
+// How many rows come before a path.
+fn count_less(rows: &[RawRow], path: &[u8]) -> usize
+    ensures { result ≡ length (filter (is_less path.now) rows.now) }
 {
-    path.cmp(row.path.as_slice()).is_lt()
-}
-
-// Puts a copy of a row at the end, if a test was passed.
-fn push_if(alloc: Global, test: bool, rows: &mut Vec<RawRow>, row: &RawRow) -> Result<(), Memory>
-    ensures { OnOk result (rows.new.items ≡ rows.old.items ++ kept_if test row.now) }
-{
-    if test {
-        push_copy(alloc, rows, row)
-    } else {
-        Ok(())
-    }
-}
-
-// Puts copies of the rows that come before a path at the end.
-fn push_less(
-    alloc: Global,
-    out: &mut Vec<RawRow>,
-    path: &[u8],
-    rows: &[RawRow],
-) -> Result<(), Memory>
-    ensures { OnOk result (out.new.items ≡ out.old.items ++ filter (is_less path.now) rows.now) }
-{
+    let mut count = 0;
     for row in rows {
-        push_if(alloc, is_less(path, row), out, row)?;
+        if is_less(path, row) {
+            count += 1;
+        }
     }
-    Ok(())
+    count
 }
 
-// Puts copies of the rows that come behind a path at the end.
-fn push_greater(
-    alloc: Global,
-    out: &mut Vec<RawRow>,
-    path: &[u8],
-    rows: &[RawRow],
-) -> Result<(), Memory>
-    ensures { OnOk result (out.new.items ≡ out.old.items ++ filter (is_greater path.now) rows.now) }
+// Puts a row among ordered rows, in the place of one at its path.
+#[tactic(auto, using(crate::proofs::Ordered::place_fits, crate::proofs::Ordered::put_placed, crate::proofs::Ordered::ascend_put))]
+fn put(rows: &mut Vec<RawRow>, row: RawRow) -> Result<(), Memory>
+    requires { ascend rows.old.items ≡ true }
+    ensures rows { OnOk result (rows.new.items ≡ put rows.old.items row) }
+    ensures ascends { OnOk result (ascend rows.new.items ≡ true) }
 {
-    for row in rows {
-        push_if(alloc, is_greater(path, row), out, row)?;
-    }
+    let place = count_less(rows.as_slice(), row.path.as_slice());
+    drop_at(rows, row.path.as_slice());
+    rows.insert(place, row)?;
     Ok(())
-}
-
-// The rows with one more, which stands in the place of one at its path.
-fn put(alloc: Global, rows: &[RawRow], row: &RawRow) -> Result<Vec<RawRow>, Memory>
-    ensures { IfOk result (λ new. new.items ≡ put rows.now row.now) }
-{
-    let mut new = Vec::new(alloc);
-    push_less(alloc, &mut new, row.path.as_slice(), rows)?;
-    push_copy(alloc, &mut new, row)?;
-    push_greater(alloc, &mut new, row.path.as_slice(), rows)?;
-    Ok(new)
 }
 
 // The rows with each of some more.
 fn put_all(alloc: Global, old: &[RawRow], rows: &[RawRow]) -> Result<Vec<RawRow>, Memory>
+    requires { ascend old.now ≡ true }
     ensures { IfOk result (λ new. new.items ≡ put_all old.now rows.now) }
 {
     let mut new = copy_rows(alloc, old)?;
     for row in rows {
-        new = put(alloc, new.as_slice(), row)?;
+        put(&mut new, copy_row(alloc, row)?)?;
     }
     Ok(new)
 }
