@@ -1,14 +1,15 @@
 -- Children of which one is changed, taken out or put in.
 use Rattle.mat_path.proofs.PathLemmas.{lt_less}
 use Rattle.mat_path.specs.Names.{name_cmp}
-use Rattle.std.proofs.Common.{◌≡◌, ◌<◌, ◌≤◌, ℕ, zero, suc, Bool, true, false, not, cond, ◌&&◌, List, [], ◌∷◌, ◌++◌, map, length, take, drop, get_or, set, refl, ◌∙◌, sym, ap, arith}
+use Rattle.std.proofs.Common.{◌≡◌, ◌<◌, ◌≤◌, ◌+◌, ℕ, zero, suc, Bool, true, false, not, cond, ◌&&◌, List, [], ◌∷◌, ◌++◌, map, length, take, drop, get_or, set, refl, ◌∙◌, sym, ap, arith}
 use Rattle.std.proofs.lemmas.Bool.{and_from}
-use Rattle.std.proofs.lemmas.List.{map-append, take-append-drop, set_split}
+use Rattle.std.proofs.lemmas.List.{length-append, length-map, map-append, take-append-drop, set_split}
 use Rattle.std.proofs.lemmas.List.Concat.{flat_map-append}
 use Rattle.std.specs.Cmp.{first_so, second_so}
 use Rattle.std.specs.List.{insert, list_all, remove}
 use Rattle.std.specs.Ordering.{is_lt}
 use Rattle.std.specs.Result.{IfOk}
+use Rattle.std.specs.declared.option.Option.{Option}
 use Rattle.std.specs.declared.result.Result.{Result}
 use Rattle.std.specs.declared.result.Result.TheVariants.{Ok, Err}
 use Rattle.std.proofs.lemmas.Cmp.{nat_list_cmp_total}
@@ -18,7 +19,7 @@ use Rattle.path_trie.specs.declared.node.Edge.{Edge, out-Edge}
 use Rattle.path_trie.specs.declared.node.Edge.TheViews.{roll-Edge, out-roll-Edge}
 use Rattle.path_trie.specs.declared.node.Edge.TheOpen as layer
 use Rattle.path_trie.specs.Entries.{are_in_turn, is_before, is_behind, put, without}
-use Rattle.path_trie.specs.Nodes.{put_in, has_some, are_in_order, are_well, below_node, below_edge, below_all, comes_before, comes_behind, edge_name, is_well, is_well_edge}
+use Rattle.path_trie.specs.Nodes.{own, put_in, has_some, are_in_order, are_well, below_node, below_edge, below_all, comes_before, comes_behind, edge_name, is_well, is_well_edge}
 use Rattle.path_trie.proofs.Lists.{all_join, all_left, all_right}
 use Rattle.path_trie.proofs.Order.{asc_around, asc_left, asc_right, asc_without}
 use Rattle.path_trie.proofs.Told.{well_edge_out}
@@ -197,3 +198,66 @@ has_kept false path value xs ys e h = ap has_some e ∙ h
 pub old_same : {A E : Type 0} (r : Result A E) (a b : A) → a ≡ b → IfOk r (λ old. old ≡ a) → IfOk r (λ old. old ≡ b)
 old_same (Ok x) a b e h = h ∙ e
 old_same (Err y) a b e h = tt
+
+-- ---- how many entries stand below children
+
+-- around a child
+spread : {T : Type 0} (pre post : List (Edge T)) (e : Edge T)
+    → length (below_all (pre ++ (e ∷ post))) ≡ length (below_all pre) + (length (below_node (out-Edge T e).node) + length (below_all post))
+spread {T} pre post e =
+    let whole = ap length (below_around pre post e) in
+    let front = length-append (below_all pre) (map (put_in (edge_name e)) (below_node (out-Edge T e).node) ++ below_all post) in
+    let back = length-append (map (put_in (edge_name e)) (below_node (out-Edge T e).node)) (below_all post) in
+    let same = length-map (below_node (out-Edge T e).node) (put_in (edge_name e)) in
+    omega (arith, whole, front, back, same)
+
+-- a child has no more of them than all
+pub count_part : {T : Type 0} (es : List (Edge T)) (k : ℕ) (e : Edge T) → k < length es → e ≡ get_or es k e → length (below_node (out-Edge T e).node) ≤ length (below_all es)
+count_part {T} es k e l is =
+    let all = ap (λ t. length (below_all t)) (around es k e l is) in
+    let parts = spread (take k es) (drop (suc k) es) e in omega (arith, all, parts)
+
+-- with a child's node changed
+pub count_changed : {T : Type 0} (es : List (Edge T)) (k : ℕ) (e f : Edge T) (m : Node T) → k < length es → e ≡ get_or es k e → (out-Edge T f).node ≡ m
+    → length (below_all (set es k f)) + length (below_node (out-Edge T e).node) ≡ length (below_all es) + length (below_node m)
+count_changed {T} es k e f m l is fm =
+    let all = ap (λ t. length (below_all t)) (around es k e l is) in
+    let parts = spread (take k es) (drop (suc k) es) e in
+    let new = ap (λ t. length (below_all t)) (set_split es k f l) in
+    let news = spread (take k es) (drop (suc k) es) f in
+    let same = ap (λ t. length (below_node t)) fm in
+    omega (arith, all, parts, new, news, same)
+
+-- without a child
+pub count_removed : {T : Type 0} (es news : List (Edge T)) (k : ℕ) (e f : Edge T) → k < length es → e ≡ get_or es k e → news ≡ remove (set es k f) k
+    → length (below_all news) + length (below_node (out-Edge T e).node) ≡ length (below_all es)
+count_removed {T} es news k e f l is news_is =
+    let all = ap (λ t. length (below_all t)) (around es k e l is) in
+    let parts = spread (take k es) (drop (suc k) es) e in
+    let new = ap (λ t. length (below_all t)) (news_is ∙ removed es k f l) in
+    let split = ap length (flat_map-append below_edge (take k es) (drop (suc k) es)) in
+    let news_parts = length-append (below_all (take k es)) (below_all (drop (suc k) es)) in
+    omega (arith, all, parts, new, split, news_parts)
+
+-- with one child more, that has one of them
+pub count_added : {T : Type 0} (es news : List (Edge T)) (k : ℕ) (f : Edge T) (x : Entry T) → below_node (out-Edge T f).node ≡ x ∷ [] → news ≡ insert es k f
+    → length (below_all news) ≡ length (below_all es) + 1
+count_added {T} es news k f x one is =
+    let all = ap (λ t. length (below_all t)) (sym (take-append-drop k es)) in
+    let split = ap length (flat_map-append below_edge (take k es) (drop k es)) in
+    let parts = length-append (below_all (take k es)) (below_all (drop k es)) in
+    let new = ap (λ t. length (below_all t)) is in
+    let news_parts = spread (take k es) (drop k es) f in
+    let single : length (below_node (out-Edge T f).node) ≡ 1 = ap length one in
+    omega (arith, all, split, parts, new, news_parts, single)
+
+-- a node with nothing at and below it
+pub none_left : {T : Type 0} (xs : List (Entry T)) (b : Bool) → b ≡ not (has_some xs) → b ≡ true → length xs ≡ 0
+none_left [] b e h = refl
+none_left (x ∷ xs) b e h = cc
+
+-- how many more entries a put makes, told of what stands around
+pub ok_more : {E T : Type 0} (r : Result (Option T) E) (news olds new old : ℕ) → news + old ≡ olds + new
+    → IfOk r (λ o. new + length (own o) ≡ old + 1) → IfOk r (λ o. news + length (own o) ≡ olds + 1)
+ok_more (Ok o) news olds new old e h = omega (arith, e, h)
+ok_more (Err y) news olds new old e h = tt

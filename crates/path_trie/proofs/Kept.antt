@@ -1,10 +1,10 @@
 -- What a node keeps, and what is at and below it by what is below its children.
-use Rattle.std.proofs.Common.{◌≡◌, ◌<◌, ◌≤◌, ◌-◌, ℕ, zero, suc, Bool, true, false, not, cond, ◌&&◌, List, [], ◌∷◌, ◌++◌, map, length, take, drop, get_or, refl, ◌∙◌, sym, ap, subst, arith}
-use Rattle.std.proofs.lemmas.Bool.{and_from}
+use Rattle.std.proofs.Common.{◌≡◌, ◌<◌, ◌≤◌, ◌-◌, ◌+◌, ℕ, zero, suc, Bool, true, false, not, cond, ◌&&◌, List, [], ◌∷◌, ◌++◌, map, length, take, drop, get_or, refl, ◌∙◌, sym, ap, subst, arith}
+use Rattle.std.proofs.lemmas.Bool.{and_from, eq-eqb}
 use Rattle.std.specs.Prelude.{nat_eq}
 use Rattle.std.proofs.Math.Dec.{eqb-suc-zero}
 use Rattle.std.specs.Option.{is_some}
-use Rattle.std.proofs.lemmas.List.{map-append, take_all, take-append-drop}
+use Rattle.std.proofs.lemmas.List.{length-append, map-append, take_all, take-append-drop}
 use Rattle.std.specs.Cmp.{first_so, second_so}
 use Rattle.std.specs.List.{filter, find, list_all}
 use Rattle.std.specs.Option.{option_map}
@@ -20,9 +20,9 @@ use Rattle.path_trie.specs.declared.node.Edge.{Edge, out-Edge}
 use Rattle.path_trie.specs.declared.node.Edge.TheOpen as layer
 use Rattle.path_trie.specs.declared.node.Edge.TheViews.{roll-Node, out-roll-Node}
 use Rattle.path_trie.specs.Entries.{is_at, is_before, is_behind, is_elsewhere, put, value_at, value_of, without}
-use Rattle.path_trie.specs.Nodes.{own, put_in, has_some, are_in_order, are_well, below_node, below_edge, below_all, comes_before, comes_behind, edge_name, is_well, is_well_edge}
+use Rattle.path_trie.specs.Nodes.{own, put_in, has_some, are_in_order, are_well, below_node, below_edge, below_all, comes_before, comes_behind, edge_name, is_well, is_well_edge, node_count}
 use Rattle.path_trie.proofs.Lists.{find_first, first_of, split_at}
-use Rattle.path_trie.proofs.Told.{below_edge_out, below_node_out, well_edge_out, well_out}
+use Rattle.path_trie.proofs.Told.{below_edge_out, below_node_out, count_out, well_edge_out, well_out}
 use Rattle.path_trie.proofs.Around.{alike_below}
 use Rattle.mat_path.proofs.Halves.{all_at}
 use Rattle.path_trie.proofs.Halves.{back_is, between_before, between_behind, edge_cmp, found_name, front_is, name_at, rises}
@@ -56,7 +56,9 @@ names_split (n ∷ names) name h e =
 -- ---- what a node keeps
 
 pub well_edges : {T : Type 0} (n : Node T) (es : List (Edge T)) → es ≡ (out-Node T n).edges.items → is_well n ≡ true → are_well es ≡ true
-well_edges n es e h = ap are_well e ∙ sym (well_out n) ∙ h
+well_edges {T} n es e h =
+    ap are_well e
+    ∙ second_so (nat_eq (node_count n) (length (own (out-Node T n).value ++ below_all (out-Node T n).edges.items))) (are_well (out-Node T n).edges.items) (sym (well_out n) ∙ h)
 
 pub in_order : {T : Type 0} (es : List (Edge T)) → are_well es ≡ true → are_in_order (map edge_name es) ≡ true
 in_order es h = first_so (are_in_order (map edge_name es)) (list_all is_well_edge es) h
@@ -129,24 +131,12 @@ value_none es name more k f b =
 
 -- ---- a node with nothing at and below it
 
-pub has_left : {X : Type 0} (xs ys : List X) → has_some xs ≡ true → has_some (xs ++ ys) ≡ true
-has_left [] ys h = cc
-has_left (x ∷ xs) ys h = refl
-
-has_map : {X Y : Type 0} (f : X → Y) (xs : List X) → has_some (map f xs) ≡ has_some xs
-has_map f [] = refl
-has_map f (x ∷ xs) = refl
-
-bare_by : {T : Type 0} (v : Option T) (es : List (Edge T)) → are_well es ≡ true → is_some v ≡ false → nat_eq (length es) 0 ≡ not (has_some (own v ++ below_all es))
-bare_by (Some v) es h s = cc
-bare_by None [] h s = refl
-bare_by {T} None (e ∷ es) h s =
-    let child = first_so (has_some (below_node (out-Edge T e).node)) (is_well (out-Edge T e).node) (child_edge (e ∷ es) 0 e h (omega arith) refl) in
-    eqb-suc-zero (length es)
-    ∙ sym (ap not (has_left (below_edge e) (below_all es) (ap has_some (below_edge_out e) ∙ has_map (put_in (edge_name e)) (below_node (out-Edge T e).node) ∙ child)))
-
-pub bare_is : {T : Type 0} (n : Node T) → is_well n ≡ true → is_some (out-Node T n).value ≡ false → nat_eq (length (out-Node T n).edges.items) 0 ≡ not (has_some (below_node n))
-bare_is {T} n h s = bare_by (out-Node T n).value (out-Node T n).edges.items (sym (well_out n) ∙ h) s ∙ ap (λ t. not (has_some t)) (sym (below_node_out n))
+pub bare_is : {T : Type 0} (n : Node T) → is_well n ≡ true → nat_eq (node_count n) 0 ≡ not (has_some (below_node n))
+bare_is n h = ap (λ k. nat_eq k 0) (count_out n h) ∙ by (below_node n)
+  where
+    by : {X : Type 0} (xs : List X) → nat_eq (length xs) 0 ≡ not (has_some xs)
+    by [] = refl
+    by (x ∷ xs) = eqb-suc-zero (length xs)
 
 -- ---- places among the same children
 
@@ -173,8 +163,57 @@ is_there b false e f = cc
 pub list_rolled : {T : Type 0} (r : layer.Node-F T (Edge T) (Node T)) → below_node (roll-Node T r) ≡ own r.value ++ below_all r.edges.items
 list_rolled {T} r = below_node_out (roll-Node T r) ∙ ap (λ (t : layer.Node-F T (Edge T) (Node T)). own t.value ++ below_all t.edges.items) (out-roll-Node T r)
 
-pub well_rolled : {T : Type 0} (r : layer.Node-F T (Edge T) (Node T)) → is_well (roll-Node T r) ≡ are_well r.edges.items
-well_rolled {T} r = well_out (roll-Node T r) ∙ ap (λ (t : layer.Node-F T (Edge T) (Node T)). are_well t.edges.items) (out-roll-Node T r)
+pub well_rolled : {T : Type 0} (r : layer.Node-F T (Edge T) (Node T)) → r.count ≡ length (below_node (roll-Node T r)) → are_well r.edges.items ≡ true → is_well (roll-Node T r) ≡ true
+well_rolled {T} r e h =
+    well_out (roll-Node T r)
+    ∙ ap (λ (t : layer.Node-F T (Edge T) (Node T)). nat_eq t.count (length (own t.value ++ below_all t.edges.items)) && are_well t.edges.items) (out-roll-Node T r)
+    ∙ and_from (nat_eq r.count (length (own r.value ++ below_all r.edges.items))) (are_well r.edges.items)
+    (eq-eqb r.count (length (own r.value ++ below_all r.edges.items)) (e ∙ ap length (list_rolled r))) h
+
+-- the children of a node have no more entries than it
+pub few_edges : {T : Type 0} (n : Node T) → length (below_all (out-Node T n).edges.items) ≤ length (below_node n)
+few_edges {T} n =
+    let all = ap length (below_node_out n) in
+    let parts = length-append (own (out-Node T n).value) (below_all (out-Node T n).edges.items) in omega (arith, all, parts)
+
+-- how many entries are at and below a node, by what stands at it and below it
+length_out : {T : Type 0} (n : Node T) → length (below_node n) ≡ length (own (out-Node T n).value) + length (below_all (out-Node T n).edges.items)
+length_out {T} n = ap length (below_node_out n) ∙ length-append (own (out-Node T n).value) (below_all (out-Node T n).edges.items)
+
+length_rolled : {T : Type 0} (r : layer.Node-F T (Edge T) (Node T)) → length (below_node (roll-Node T r)) ≡ length (own r.value) + length (below_all r.edges.items)
+length_rolled r = ap length (list_rolled r) ∙ length-append (own r.value) (below_all r.edges.items)
+
+-- nor is there more at it
+pub few_own : {T : Type 0} (n : Node T) (o : Option T) → o ≡ (out-Node T n).value → length (own o) ≤ length (below_node n)
+few_own n o e = let all = length_out n in let first = ap (λ t. length (own t)) e in omega (arith, all, first)
+
+pub plus_zero : (k : ℕ) → k + 0 ≡ k
+plus_zero k = omega arith
+
+-- with another value, or none, at the node itself
+pub here_counted : {T : Type 0} (n : Node T) (r : layer.Node-F T (Edge T) (Node T)) (old new : Option T) → old ≡ (out-Node T n).value → r.value ≡ new
+    → r.edges.items ≡ (out-Node T n).edges.items → length (below_node (roll-Node T r)) + length (own old) ≡ length (below_node n) + length (own new)
+here_counted {T} n r old new o v same =
+    let was = length_out n in
+    let is = length_rolled r in
+    let first = ap (λ t. length (own t)) o in
+    let second = ap (λ t. length (own t)) v in
+    let rest = ap (λ t. length (below_all t)) same in
+    omega (arith, was, is, first, second, rest)
+
+-- with more or less below it
+pub edges_counted : {T : Type 0} (n : Node T) (r : layer.Node-F T (Edge T) (Node T)) (k m : ℕ) → r.value ≡ (out-Node T n).value
+    → length (below_all r.edges.items) + k ≡ length (below_all (out-Node T n).edges.items) + m → length (below_node (roll-Node T r)) + k ≡ length (below_node n) + m
+edges_counted {T} n r k m v e =
+    let was = length_out n in
+    let is = length_rolled r in
+    let own_is = ap (λ t. length (own t)) v in
+    omega (arith, was, is, own_is, e)
+
+-- a node whose number changed as its entries did
+pub well_counted : {T : Type 0} (n : Node T) (r : layer.Node-F T (Edge T) (Node T)) (k m : ℕ) → is_well n ≡ true → r.count + k ≡ node_count n + m
+    → length (below_node (roll-Node T r)) + k ≡ length (below_node n) + m → are_well r.edges.items ≡ true → is_well (roll-Node T r) ≡ true
+well_counted {T} n r k m h c e w = let was = count_out n h in well_rolled r (omega (arith, was, c, e)) w
 
 without_here : {T : Type 0} (v : Option T) (es : List (Edge T)) → below_all es ≡ without [] (own v ++ below_all es)
 without_here None es = sym (all_elsewhere es)

@@ -4,8 +4,11 @@ pub mod Changed
 pub mod Halves
 pub mod Kept
 pub mod Lists
+pub mod Onwards
 pub mod Order
+pub mod Picks
 pub mod RootLemmas
+pub mod Seeks
 pub mod ShownLemmas
 pub mod Told
 pub mod WalkLemmas

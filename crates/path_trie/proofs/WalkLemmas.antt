@@ -25,10 +25,10 @@ use Rattle.path_trie.proofs.Kept.{around, in_order, name_is}
 
 -- ---- tests of a path below a name
 
-above_other : {T : Type 0} (name : List ℕ) (more : List (List ℕ)) (n : List ℕ) (x : Entry T) → same_name name n ≡ false → is_above (name ∷ more) (put_in n x) ≡ false
+pub above_other : {T : Type 0} (name : List ℕ) (more : List (List ℕ)) (n : List ℕ) (x : Entry T) → same_name name n ≡ false → is_above (name ∷ more) (put_in n x) ≡ false
 above_other name more n x e = ap (λ b. b && is_prefix x.path more) (same_name-sym n name ∙ e)
 
-above_same : {T : Type 0} (name : List ℕ) (more : List (List ℕ)) (x : Entry T) → is_above (name ∷ more) (put_in name x) ≡ is_above more x
+pub above_same : {T : Type 0} (name : List ℕ) (more : List (List ℕ)) (x : Entry T) → is_above (name ∷ more) (put_in name x) ≡ is_above more x
 above_same name more x = ap (λ b. b && is_prefix x.path more) (same_name-refl name)
 
 over_other : {T : Type 0} (name : List ℕ) (more : List (List ℕ)) (n : List ℕ) (x : Entry T) → same_name name n ≡ false → overlaps (name ∷ more) (put_in n x) ≡ false

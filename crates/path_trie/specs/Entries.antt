@@ -1,6 +1,6 @@
 -- A map from paths to values, as contracts see it: the list of its entries in order of path, each path once.
-use Rattle.std.specs.Prelude.{ℕ, Bool, true, not, ◌&&◌, List, [], ◌∷◌, ◌++◌, length, map, Option}
-use Rattle.std.specs.List.{filter, find, list_all}
+use Rattle.std.specs.Prelude.{◌≡◌, ◌≤◌, ℕ, nat_le, Bool, true, false, not, ◌&&◌, List, [], ◌∷◌, ◌++◌, length, map, Option, Some, None}
+use Rattle.std.specs.List.{Contains, filter, find, list_all}
 use Rattle.std.specs.Option.{option_map}
 use Rattle.std.specs.Ordering.{is_lt}
 use Rattle.mat_path.specs.Names.{is_prefix, overlap, path_cmp, same_names}
@@ -22,9 +22,25 @@ is_before path entry = is_lt (path_cmp entry.path path)
 abbrev pub is_behind : {V : Type 0} → List (List ℕ) → Entry V → Bool
 is_behind path entry = is_lt (path_cmp path entry.path)
 
+-- whether an entry doesn't come before a path
+abbrev pub is_from : {V : Type 0} → List (List ℕ) → Entry V → Bool
+is_from path entry = not (is_before path entry)
+
+-- whether an entry is at or below a path
+abbrev pub is_under : {V : Type 0} → List (List ℕ) → Entry V → Bool
+is_under path entry = is_prefix path entry.path
+
+-- whether an entry is at or below a path, and comes behind another path
+abbrev pub is_next_under : {V : Type 0} → List (List ℕ) → List (List ℕ) → Entry V → Bool
+is_next_under top last entry = is_under top entry && is_behind last entry
+
 -- whether an entry's path is a prefix of a path
 abbrev pub is_above : {V : Type 0} → List (List ℕ) → Entry V → Bool
 is_above path entry = is_prefix entry.path path
+
+-- whether an entry's path is a prefix of a path, of at least so many names
+abbrev pub is_high : {V : Type 0} → List (List ℕ) → ℕ → Entry V → Bool
+is_high path least entry = is_above path entry && nat_le least (length entry.path)
 
 -- whether an entry's path overlaps a path
 abbrev pub overlaps : {V : Type 0} → List (List ℕ) → Entry V → Bool
@@ -50,6 +66,10 @@ path_of entry = entry.path
 abbrev pub value_of : {V : Type 0} → Entry V → V
 value_of entry = entry.value
 
+-- an entry as a pair
+abbrev pub both : {V : Type 0} → Entry V → List (List ℕ) × V
+both entry = (entry.path, entry.value)
+
 -- the value at a path, if one stands there
 abbrev pub value_at : {V : Type 0} → List (List ℕ) → List (Entry V) → Option V
 value_at path entries = option_map value_of (find (is_at path) entries)
@@ -69,3 +89,12 @@ counted entry = (length entry.path, entry.value)
 -- the entry at the shortest prefix of a path, which is the first in order of path: its number of names, and its value
 abbrev pub cover_of : {V : Type 0} → List (List ℕ) → List (Entry V) → Option (ℕ × V)
 cover_of path entries = option_map counted (find (is_above path) entries)
+
+-- what the entry at the shortest prefix of a path is: it is one of the entries, at a prefix, and each other at a prefix has no fewer names; and
+-- where there is none, no entry is at a prefix
+abbrev pub IsShortest : {V : Type 0} → List (List ℕ) → List (Entry V) → Option (Entry V) → Type 0
+IsShortest {V} path entries None = (entry : Entry V) → Contains entries entry → is_above path entry ≡ false
+IsShortest {V} path entries (Some found) =
+    Contains entries found
+    × (is_above path found ≡ true)
+    × ((entry : Entry V) → Contains entries entry → is_above path entry ≡ true → length found.path ≤ length entry.path)

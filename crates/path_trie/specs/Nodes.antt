@@ -1,11 +1,11 @@
 -- What stands at and below a node of a trie, seen from it, and what a node keeps.
-use Rattle.std.specs.Prelude.{ℕ, Bool, true, false, ◌&&◌, List, [], ◌∷◌, ◌++◌, map, Option, Some, None}
+use Rattle.std.specs.Prelude.{ℕ, nat_eq, Bool, true, false, ◌&&◌, List, [], ◌∷◌, ◌++◌, length, map, Option, Some, None}
 use Rattle.std.specs.List.{flat_map, list_all}
 use Rattle.std.specs.Ordering.{is_lt}
 use Rattle.mat_path.specs.Names.{name_cmp}
 use Rattle.path_trie.specs.declared.entry.Entry.{Entry}
 use Rattle.path_trie.specs.Entries.{are_in_turn}
-use Rattle.path_trie.specs.declared.node.Node.{Node}
+use Rattle.path_trie.specs.declared.node.Node.{Node, out-Node}
 use Rattle.path_trie.specs.declared.node.Edge.{Edge, out-Edge}
 use Rattle.path_trie.specs.declared.node.Edge.TheOpen as layer
 use Rattle.path_trie.specs.declared.node.Edge.TheFolds.{fold-Node, fold-Edge}
@@ -64,11 +64,15 @@ edge_step edge = record {
   well = has_some edge.node.entries && edge.node.well;
 }
 
--- one layer: a node, from what is told of its children, which stand in strict order of name
+-- the entries of a node, from what is told of its children
+abbrev pub step_entries : {T : Type 0} → layer.Node-F T (ToldEdge T) (Told T) → List (Entry T)
+step_entries node = own node.value ++ flat_map told_entries node.edges.items
+
+-- one layer: a node, from what is told of its children, which stand in strict order of name; it has the number of its entries
 abbrev pub node_step : {T : Type 0} → layer.Node-F T (ToldEdge T) (Told T) → Told T
 node_step node = record {
-  entries = own node.value ++ flat_map told_entries node.edges.items;
-  well = are_in_order (map told_name node.edges.items) && list_all told_well node.edges.items;
+  entries = step_entries node;
+  well = nat_eq node.count (length (step_entries node)) && (are_in_order (map told_name node.edges.items) && list_all told_well node.edges.items);
 }
 
 -- what is told of a node
@@ -83,7 +87,8 @@ tell_edge {T} = fold-Edge T (ToldEdge T) (Told T) edge_step node_step
 abbrev pub below_node : {T : Type 0} → Node T → List (Entry T)
 below_node node = (tell_node node).entries
 
--- whether children stand in strict order of name at and below a node, and something stands at or below each of them
+-- whether children stand in strict order of name at and below a node, something stands at or below each of them, and each node there has the number
+-- of its entries
 abbrev pub is_well : {T : Type 0} → Node T → Bool
 is_well node = (tell_node node).well
 
@@ -102,6 +107,10 @@ below_all edges = flat_map below_edge edges
 -- the name of a child
 abbrev pub edge_name : {T : Type 0} → Edge T → List ℕ
 edge_name {T} edge = (out-Edge T edge).name
+
+-- how many entries a node keeps that it has
+abbrev pub node_count : {T : Type 0} → Node T → ℕ
+node_count {T} node = (out-Node T node).count
 
 -- whether children are as those of a node should be
 abbrev pub are_well : {T : Type 0} → List (Edge T) → Bool

@@ -1,5 +1,5 @@
 -- The entries of a trie, from its root.
-use Rattle.std.specs.Prelude.{◌≡◌, Bool, true, List, map, Option, Result, Ok, Err}
+use Rattle.std.specs.Prelude.{◌≡◌, Bool, true, List, map, if◌then◌else◌, Option, Some, None, Result, Ok, Err}
 use Rattle.std.specs.Option.{option_map}
 use Rattle.std.specs.List.{list_all}
 use Rattle.mat_path.specs.Names.{same_names}
@@ -30,3 +30,8 @@ pub record IsTrie {V : Type 0} (root : Node (Entry V)) : Type 0 where
 abbrev pub value_put : {V : Type 0} → Result (Option (Entry V)) (Entry V) → Result (Option V) V
 value_put (Ok old) = Ok (option_map value_of old)
 value_put (Err entry) = Err entry.value
+
+-- what is there, if it passes a test
+abbrev pub kept_if : {X : Type 0} → (X → Bool) → Option X → Option X
+kept_if test None = None
+kept_if test (Some x) = if test x then Some x else None

@@ -1,8 +1,8 @@
 // Values that are put at and taken from some names below a node.
-ghost use Rattle.std.specs.Prelude.{◌≡◌, ◌∷◌, [], ◌<◌, ◌≤◌, true, false, length, map, drop, take, is_ok, if◌then◌else◌, insert, IfErr, IfOk, IsOk, vec_len, vec_capacity};
+ghost use Rattle.std.specs.Prelude.{◌≡◌, ◌∷◌, [], ◌<◌, ◌≤◌, true, false, length, map, drop, take, is_ok, if◌then◌else◌, insert, IfErr, IfOk, IsOk, OnOk, ◌+◌, ◌^◌, vec_len, vec_capacity};
 ghost use Rattle.std.specs.List.{list_all};
 ghost use Rattle.path_trie.specs.Entries.{put, value_at, without};
-ghost use Rattle.path_trie.specs.Nodes.{are_well, below_node, below_all, comes_before, comes_behind, edge_name, is_well, is_well_edge, has_some};
+ghost use Rattle.path_trie.specs.Nodes.{are_well, below_node, below_all, comes_before, comes_behind, edge_name, is_well, is_well_edge, has_some, own};
 
 use crate::find::place_of;
 use crate::node::{Edge, Node};
@@ -18,15 +18,40 @@ pub(crate) fn put_at<T: Drop>(
     names: &[Name],
     value: T,
 ) -> Result<Option<T>, T>
-    requires { is_well node.old ≡ true }
+    requires well { is_well node.old ≡ true }
+    requires room { length (below_node node.old) + 1 < 2 ^ 64 }
     ensures list { below_node node.new ≡ (if is_ok result then put names.now value (below_node node.old) else below_node node.old) }
     ensures well { is_well node.new ≡ true }
     ensures old { IfOk result (λ old. old ≡ value_at names.now (below_node node.old)) }
     ensures back { IfErr result (λ back. back ≡ value) }
+    ensures more { IfOk result (λ old. length (below_node node.new) + length (own old) ≡ length (below_node node.old) + 1) }
 {
+    let Node {
+        value: own,
+        edges,
+        count,
+    } = node;
     match names {
-        [] => Ok(mem::replace(&mut node.value, Some(value))),
-        [name, more @ ..] => put_among(alloc, &mut node.edges, name, more, value),
+        [] => Ok(count_put(count, mem::replace(own, Some(value)))),
+        [name, more @ ..] => match put_among(alloc, edges, name, more, value) {
+            Ok(old) => Ok(count_put(count, old)),
+            Err(value) => Err(value),
+        },
+    }
+}
+
+// Counts the entry that was put in place of one, or of none.
+fn count_put<T: Drop>(count: &mut usize, old: Option<T>) -> Option<T>
+    requires { count.old + 1 < 2 ^ 64 }
+    ensures count { count.new + length (own old) ≡ count.old + 1 }
+    ensures same { result ≡ old }
+{
+    match old {
+        Some(old) => Some(old),
+        None => {
+            *count += 1;
+            None
+        }
     }
 }
 
@@ -39,11 +64,13 @@ fn put_among<T: Drop>(
     more: &[Name],
     value: T,
 ) -> Result<Option<T>, T>
-    requires { are_well edges.old.items ≡ true }
+    requires well { are_well edges.old.items ≡ true }
+    requires room { length (below_all edges.old.items) + 1 < 2 ^ 64 }
     ensures list { below_all edges.new.items ≡ (if is_ok result then put (name.now ∷ more.now) value (below_all edges.old.items) else below_all edges.old.items) }
     ensures well { are_well edges.new.items ≡ true }
     ensures old { IfOk result (λ old. old ≡ value_at (name.now ∷ more.now) (below_all edges.old.items)) }
     ensures back { IfErr result (λ back. back ≡ value) }
+    ensures more { IfOk result (λ old. length (below_all edges.new.items) + length (own old) ≡ length (below_all edges.old.items) + 1) }
 {
     match place_of(edges, name) {
         Ok(place) => put_at(alloc, &mut edges[place].node, more, value),
@@ -71,6 +98,7 @@ fn add_edge<T: Drop>(
     ensures list { below_all edges.new.items ≡ (if is_ok result then put (name.now ∷ more.now) value (below_all edges.old.items) else below_all edges.old.items) }
     ensures well { are_well edges.new.items ≡ true }
     ensures back { IfErr result (λ back. back ≡ value) }
+    ensures more { OnOk result (length (below_all edges.new.items) ≡ length (below_all edges.old.items) + 1) }
 {
     if edges.reserve(1).is_err() {
         return Err(value);
@@ -99,9 +127,14 @@ fn node_of<T: Drop>(alloc: Global, names: &[Name], value: T) -> Result<Node<T>, 
         [] => Ok(Node {
             value: Some(value),
             edges,
+            count: 1,
         }),
         [name, more @ ..] => match add_edge(alloc, &mut edges, 0, name, more, value) {
-            Ok(()) => Ok(Node { value: None, edges }),
+            Ok(()) => Ok(Node {
+                value: None,
+                edges,
+                count: 1,
+            }),
             Err(value) => Err(value),
         },
     }
@@ -126,10 +159,31 @@ pub(crate) fn take_at<T: Drop>(node: &mut Node<T>, names: &[Name]) -> Option<T>
     ensures list { below_node node.new ≡ without names.now (below_node node.old) }
     ensures well { is_well node.new ≡ true }
     ensures value { result ≡ value_at names.now (below_node node.old) }
+    ensures less { length (below_node node.new) + length (own result) ≡ length (below_node node.old) }
 {
+    let Node {
+        value,
+        edges,
+        count,
+    } = node;
     match names {
-        [] => node.value.take(),
-        [name, more @ ..] => take_among(&mut node.edges, name, more),
+        [] => count_taken(count, value.take()),
+        [name, more @ ..] => count_taken(count, take_among(edges, name, more)),
+    }
+}
+
+// Counts the entry out that was taken, if one was.
+fn count_taken<T: Drop>(count: &mut usize, old: Option<T>) -> Option<T>
+    requires { length (own old) ≤ count.old }
+    ensures count { count.new + length (own old) ≡ count.old }
+    ensures same { result ≡ old }
+{
+    match old {
+        Some(old) => {
+            *count -= 1;
+            Some(old)
+        }
+        None => None,
     }
 }
 
@@ -140,6 +194,7 @@ fn take_among<T: Drop>(edges: &mut Vec<Edge<T>>, name: &Name, more: &[Name]) -> 
     ensures list { below_all edges.new.items ≡ without (name.now ∷ more.now) (below_all edges.old.items) }
     ensures well { are_well edges.new.items ≡ true }
     ensures value { result ≡ value_at (name.now ∷ more.now) (below_all edges.old.items) }
+    ensures less { length (below_all edges.new.items) + length (own result) ≡ length (below_all edges.old.items) }
 {
     match place_of(edges, name) {
         Ok(place) => {

@@ -5,6 +5,8 @@ mod change;
 mod entry;
 mod find;
 mod node;
+mod pick;
+mod seek;
 mod steps;
 mod trie;
 mod walk;

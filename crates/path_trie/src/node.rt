@@ -1,15 +1,16 @@
-ghost use Rattle.std.specs.Prelude.{◌≡◌, [], true, not};
+ghost use Rattle.std.specs.Prelude.{◌≡◌, [], true, not, length};
 ghost use Rattle.path_trie.specs.Nodes.{below_node, has_some, is_well};
 
 use mat_path::Name;
 use std::alloc::Global;
 
-// A node of a trie: what stands there, and its children in strict order of name.
+// A node of a trie: what stands there, its children in strict order of name, and how many entries are at and below it.
 #[cycle(trie)]
 #[derive(Debug, Drop)]
 pub(crate) struct Node<T> {
     pub(crate) value: Option<T>,
     pub(crate) edges: Vec<Edge<T>>,
+    pub(crate) count: usize,
 }
 
 // A child of a node, under its name. Something stands at or below it.
@@ -29,7 +30,16 @@ impl<T> Node<T> {
         Node {
             value: None,
             edges: Vec::new(alloc),
+            count: 0,
         }
+    }
+
+    // How many entries are at and below the node.
+    pub(crate) fn len(&self) -> usize
+        requires { is_well self.now ≡ true }
+        ensures { result ≡ length (below_node self.now) }
+    {
+        self.count
     }
 
     // Whether nothing stands at and below the node.
@@ -37,6 +47,6 @@ impl<T> Node<T> {
         requires { is_well self.now ≡ true }
         ensures { result ≡ not (has_some (below_node self.now)) }
     {
-        self.value.is_none() && self.edges.as_slice().is_empty()
+        self.count == 0
     }
 }

@@ -1,13 +1,15 @@
-ghost use Rattle.std.specs.Prelude.{◌≡◌, ◌+◌, ◌≤◌, [], true, is_ok, length, map, if◌then◌else◌, IfErr, IfOk, IfSome};
-ghost use Rattle.std.specs.List.{filter, list_any};
+ghost use Rattle.std.specs.Prelude.{◌≡◌, ◌+◌, ◌≤◌, [], true, is_ok, length, map, nat_eq, if◌then◌else◌, IfErr, IfOk, IfSome};
+ghost use Rattle.std.specs.List.{filter, find, list_any, slice_get};
 ghost use Rattle.std.specs.Option.{option_copied, option_map};
-ghost use Rattle.path_trie.specs.Roots.{value_put};
-ghost use Rattle.path_trie.specs.Entries.{ascends, cover_of, overlaps, path_of, put, value_at, value_of, without};
+ghost use Rattle.path_trie.specs.Roots.{kept_if, value_put};
+ghost use Rattle.path_trie.specs.Entries.{ascends, both, cover_of, is_behind, is_from, is_high, is_next_under, is_under, overlaps, path_of, put, value_at, value_of, without};
 
 use crate::change::{put_at, take_at};
 use crate::entry::Entry;
 use crate::find::get_at;
 use crate::node::Node;
+use crate::pick::value_at;
+use crate::seek::{behind_at, high_at};
 use crate::steps::Steps;
 use crate::walk::{cover_at, gather_at, overlaps_at};
 use mat_path::{Memory, Path};
@@ -45,6 +47,20 @@ impl<V: Drop> Trie<V> {
         }
     }
 
+    /// How many entries it has. In time that doesn't grow with them, and without memory.
+    pub fn len(&self) -> usize
+        ensures { result ≡ length self.now }
+    {
+        self.root.len()
+    }
+
+    /// Whether it has no entry.
+    pub fn is_empty(&self) -> bool
+        ensures { result ≡ nat_eq (length self.now) 0 }
+    {
+        self.root.len() == 0
+    }
+
     /// Puts a value at a path, and gives the one that stood there. For want of memory it gives the value back, and nothing changes.
     pub fn insert(&mut self, path: &Path, value: V) -> Result<Option<V>, V>
         ensures list { self.new ≡ (if is_ok result then put path.now value self.old else self.old) }
@@ -54,6 +70,9 @@ impl<V: Drop> Trie<V> {
         let Ok(own) = path.copy() else {
             return Err(value);
         };
+        if self.root.len() == usize::MAX {
+            return Err(value);
+        }
         let entry = Entry { path: own, value };
         values_put(put_at(self.alloc, &mut self.root, path.names(), entry))
     }
@@ -74,6 +93,93 @@ impl<V: Drop> Trie<V> {
             Some(entry) => Some(&entry.value),
             None => None,
         }
+    }
+
+    /// The k-th entry in order of path. It costs the children of each node on the way to it. Takes no memory, as the calls below.
+    pub fn at(&self, k: usize) -> Option<(&Path, &V)>
+        ensures { option_map (λ seen. (seen.0.now, seen.1.now)) result ≡ option_map both (slice_get self.now k) }
+    {
+        parts(self.entry_at(k))
+    }
+
+    /// The first entry, in order of path, that isn't before a path: the one at it, if there is one.
+    pub fn first_from(&self, path: &Path) -> Option<(&Path, &V)>
+        ensures { option_map (λ seen. (seen.0.now, seen.1.now)) result ≡ option_map both (find (is_from path.now) self.now) }
+    {
+        parts(self.entry_from(path))
+    }
+
+    /// The first entry, in order of path, behind a path.
+    pub fn first_behind(&self, path: &Path) -> Option<(&Path, &V)>
+        ensures { option_map (λ seen. (seen.0.now, seen.1.now)) result ≡ option_map both (find (is_behind path.now) self.now) }
+    {
+        parts(self.entry_behind(path))
+    }
+
+    /// The first entry, in order of path, at or below a path.
+    pub fn first_under(&self, path: &Path) -> Option<(&Path, &V)>
+        ensures { option_map (λ seen. (seen.0.now, seen.1.now)) result ≡ option_map both (find (is_under path.now) self.now) }
+    {
+        parts(self.entry_under(path))
+    }
+
+    /// The first entry, in order of path, at or below a path and behind another one: with the path of the last entry that was found
+    /// it goes on from there.
+    pub fn next_under(&self, top: &Path, last: &Path) -> Option<(&Path, &V)>
+        ensures { option_map (λ seen. (seen.0.now, seen.1.now)) result ≡ option_map both (find (is_next_under top.now last.now) self.now) }
+    {
+        if last < top {
+            return parts(self.entry_under(top));
+        }
+        self.is_in_order();
+        parts(if_under(top, self.entry_behind(last)))
+    }
+
+    /// The entry at the shortest prefix of a path that has at least so many names: with one name more than the last that was found
+    /// it goes on to the next longer prefix.
+    pub fn above_from(&self, path: &Path, least: usize) -> Option<(&Path, &V)>
+        ensures { option_map (λ seen. (seen.0.now, seen.1.now)) result ≡ option_map both (find (is_high path.now least) self.now) }
+    {
+        parts(self.entry_above(path, least))
+    }
+
+    // The k-th entry.
+    fn entry_at(&self, k: usize) -> Option<&Entry<V>>
+        ensures { option_copied result ≡ slice_get self.now k }
+    {
+        value_at(&self.root, k)
+    }
+
+    // The first entry behind a path.
+    fn entry_behind(&self, path: &Path) -> Option<&Entry<V>>
+        ensures { option_copied result ≡ find (is_behind path.now) self.now }
+    {
+        behind_at(&self.root, path.names())
+    }
+
+    // The first entry that isn't before a path.
+    fn entry_from(&self, path: &Path) -> Option<&Entry<V>>
+        ensures { option_copied result ≡ find (is_from path.now) self.now }
+    {
+        match get_at(&self.root, path.names()) {
+            Some(entry) => Some(entry),
+            None => self.entry_behind(path),
+        }
+    }
+
+    // The first entry at or below a path.
+    fn entry_under(&self, path: &Path) -> Option<&Entry<V>>
+        ensures { option_copied result ≡ find (is_under path.now) self.now }
+    {
+        self.is_in_order();
+        if_under(path, self.entry_from(path))
+    }
+
+    // The entry at the shortest prefix of a path of at least so many names.
+    fn entry_above(&self, path: &Path, least: usize) -> Option<&Entry<V>>
+        ensures { option_copied result ≡ find (is_high path.now least) self.now }
+    {
+        high_at(&self.root, path.names(), least)
     }
 
     /// The entry at the shortest prefix of a path, the path itself included: its number of names and its value. Takes no memory.
@@ -134,5 +240,30 @@ fn values_put<V: Drop>(answer: Result<Option<Entry<V>>, Entry<V>>) -> Result<Opt
     match answer {
         Ok(old) => Ok(value_kept(old)),
         Err(entry) => Err(entry.value),
+    }
+}
+
+// An entry as a pair.
+fn parts<V>(found: Option<&Entry<V>>) -> Option<(&Path, &V)>
+    ensures { option_map (λ seen. (seen.0.now, seen.1.now)) result ≡ option_map both (option_copied found.entry) }
+{
+    match found {
+        Some(entry) => Some((&entry.path, &entry.value)),
+        None => None,
+    }
+}
+
+// An entry, if it is at or below a path.
+fn if_under<'a, V>(path: &Path, found: Option<&'a Entry<V>>) -> Option<&'a Entry<V>>
+    ensures { option_copied result ≡ kept_if (is_under path.now) (option_copied found.entry) }
+{
+    match found {
+        Some(entry) => {
+            if path.is_prefix(&entry.path) {
+                return Some(entry);
+            }
+            None
+        }
+        None => None,
     }
 }

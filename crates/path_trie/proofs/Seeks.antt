@@ -1,0 +1,219 @@
+-- The first entries from some names on, and those at prefixes.
+use Rattle.std.proofs.Common.{◌≡◌, ◌<◌, ◌≤◌, ◌+◌, ◌-◌, ℕ, zero, suc, Bool, true, false, cond, ◌&&◌, List, [], ◌∷◌, ◌++◌, map, length, take, drop, get_or, nat_eq, refl, ◌∙◌, sym, ap, arith}
+use Rattle.std.proofs.lemmas.Bool.{and_from, eqb-true, le-leb, leb-false, leb-true, lt-leb}
+use Rattle.std.proofs.Math.Dec.{eqb-suc-zero}
+use Rattle.std.proofs.lemmas.List.{length-drop, map-append, take_all, take-append-drop}
+use Rattle.std.specs.Cmp.{first_so, second_so}
+use Rattle.std.specs.List.{filter, find, list_all, slice_get}
+use Rattle.std.specs.Option.{option_map}
+use Rattle.std.specs.Prelude.{nat_le}
+use Rattle.std.specs.declared.option.Option.{Option}
+use Rattle.std.specs.declared.option.Option.TheVariants.{Some, None}
+use Rattle.mat_path.specs.Names.{same_name}
+use Rattle.path_trie.specs.declared.entry.Entry.{Entry}
+use Rattle.path_trie.specs.declared.node.Node.{Node, out-Node}
+use Rattle.path_trie.specs.declared.node.Edge.{Edge, out-Edge}
+use Rattle.path_trie.specs.Entries.{is_above, is_behind, is_high, value_of}
+use Rattle.path_trie.specs.Nodes.{own, put_in, has_some, are_in_order, are_well, below_node, below_edge, below_all, comes_before, comes_behind, edge_name, is_well_edge}
+use Rattle.path_trie.proofs.Lists.{all_right, find_first, first_of}
+use Rattle.path_trie.proofs.Order.{asc_right}
+use Rattle.path_trie.proofs.Told.{below_edge_out, below_node_out}
+use Rattle.path_trie.proofs.Around.{alike_below, test_around, test_between}
+use Rattle.path_trie.proofs.Below.{behind_is, behind_not, behind_same}
+use Rattle.path_trie.proofs.Halves.{back_is, front_is}
+use Rattle.path_trie.proofs.Kept.{all_behind, around, in_order, name_is}
+use Rattle.path_trie.proofs.WalkLemmas.{above_other, above_same, test_found, test_none}
+
+-- ---- the first of a list
+
+first_is : {X : Type 0} (xs : List X) → slice_get xs 0 ≡ first_of xs
+first_is [] = refl
+first_is (x ∷ xs) = refl
+
+front_found : {T : Type 0} (n : List ℕ) (v : T) (xs ys : List (Entry T)) → Some v ≡ option_map value_of (first_of xs) → Some v ≡ option_map value_of (first_of (map (put_in n) xs ++ ys))
+front_found n v [] ys e = cc
+front_found n v (x ∷ xs) ys e = e
+
+front_none : {T : Type 0} (n : List ℕ) (xs ys : List (Entry T)) → None ≡ option_map value_of (first_of xs) → first_of ys ≡ first_of (map (put_in n) xs ++ ys)
+front_none n [] ys e = refl
+front_none n (x ∷ xs) ys e = cc
+
+-- ---- some children
+
+well_drop : {T : Type 0} (es : List (Edge T)) (k : ℕ) → are_well es ≡ true → are_well (drop k es) ≡ true
+well_drop es k h =
+    let split = take-append-drop k es in
+    and_from (are_in_order (map edge_name (drop k es))) (list_all is_well_edge (drop k es))
+    (asc_right comes_behind (map edge_name (take k es)) (map edge_name (drop k es))
+    (ap are_in_order (sym (map-append edge_name (take k es) (drop k es)) ∙ ap (map edge_name) split) ∙ in_order es h))
+    (all_right is_well_edge (take k es) (drop k es) (ap (list_all is_well_edge) split ∙ second_so (are_in_order (map edge_name es)) (list_all is_well_edge es) h))
+
+-- those from a place on
+pub rest_from : {X : Type 0} (xs ys : List X) (j k : ℕ) → ys ≡ xs → j ≡ k → take (length ys - j) (drop j ys) ≡ drop k xs
+rest_from xs ys j k e h =
+    let short = length-drop j ys in
+    take_all (length ys - j) (drop j ys) (omega (arith, short)) ∙ ap (drop j) e ∙ ap (λ i. drop i xs) h
+
+pub well_from : {T : Type 0} (es ds : List (Edge T)) (j : ℕ) → ds ≡ es → are_well es ≡ true → are_well (take (length ds - j) (drop j ds)) ≡ true
+well_from es ds j e h = ap are_well (rest_from es ds j j e refl) ∙ well_drop es j h
+
+pub first_child : {T : Type 0} (es : List (Edge T)) (e : Edge T) → 1 ≤ length es → e ≡ get_or es 0 e → has_some (below_node (out-Edge T e).node) ≡ true
+    → option_map value_of (slice_get (below_node (out-Edge T e).node) 0) ≡ option_map value_of (slice_get (below_all es) 0)
+first_child [] e h is some = absurd (omega arith)
+first_child {T} (f ∷ es) e h is some =
+    by (below_node (out-Edge T e).node) some
+    ∙ ap (λ t. option_map value_of (slice_get (t ++ below_all es) 0)) (sym (below_edge_out e))
+    ∙ ap (λ t. option_map value_of (slice_get (below_edge t ++ below_all es) 0)) is
+  where
+    by : (xs : List (Entry T)) → has_some xs ≡ true → option_map value_of (slice_get xs 0) ≡ option_map value_of (slice_get (map (put_in (edge_name e)) xs ++ below_all es) 0)
+    by [] h = cc
+    by (x ∷ xs) h = refl
+
+-- ---- what is behind some names
+
+behind_past : {T : Type 0} (v : Option T) (name : List ℕ) (more : List (List ℕ)) (xs : List (Entry T)) → filter (is_behind (name ∷ more)) (own v ++ xs) ≡ filter (is_behind (name ∷ more)) xs
+behind_past None name more xs = refl
+behind_past (Some v) name more xs = refl
+
+behind_here : {T : Type 0} (v : Option T) (es : List (Edge T)) → filter (is_behind []) (own v ++ below_all es) ≡ below_all es
+behind_here None es = all_behind es
+behind_here (Some v) es = all_behind es
+
+-- the entries behind them below a node, by those behind them below its children
+behind_below : {T : Type 0} (n : Node T) (es : List (Edge T)) (names : List (List ℕ)) (name : List ℕ) (more : List (List ℕ)) (all : List (Entry T))
+    → es ≡ (out-Node T n).edges.items → names ≡ name ∷ more → filter (is_behind (name ∷ more)) (below_all es) ≡ all
+    → option_map value_of (first_of all) ≡ option_map value_of (find (is_behind names) (below_node n))
+behind_below {T} n es names name more all same split e =
+    ap (λ t. option_map value_of (first_of t))
+    (sym (ap (λ p. filter (is_behind p) (below_node n)) split ∙ ap (filter (is_behind (name ∷ more))) (below_node_out n)
+    ∙ behind_past (out-Node T n).value name more (below_all (out-Node T n).edges.items)
+    ∙ ap (λ t. filter (is_behind (name ∷ more)) (below_all t)) (sym same) ∙ e))
+    ∙ ap (option_map value_of) (sym (find_first (is_behind names) (below_node n)))
+
+behind_found : {T : Type 0} (es : List (Edge T)) (name : List ℕ) (more : List (List ℕ)) (k : ℕ) (e : Edge T) → are_well es ≡ true → k < length es
+    → get_or (map edge_name es) k name ≡ name → e ≡ get_or es k e
+    → filter (is_behind (name ∷ more)) (below_all es) ≡ map (put_in (edge_name e)) (filter (is_behind more) (below_node (out-Edge T e).node)) ++ below_all (drop (suc k) es)
+behind_found es name more k e h l found is =
+    ap (λ t. filter (is_behind (name ∷ more)) (below_all t)) (around es k e l is)
+    ∙ test_around (comes_before name) (comes_behind name) (is_behind (name ∷ more)) (is_behind more) false true (take k es) (drop (suc k) es) e
+    (λ n x a. behind_not name more n x a) (λ n x a. behind_is name more n x a)
+    (λ x. ap (λ n. is_behind (name ∷ more) (put_in n x)) (name_is es k e name l is found) ∙ behind_same name more x)
+    (front_is name es k (in_order es h) l found) (back_is name es k (in_order es h) l found)
+
+pub behind_some : {T : Type 0} (n : Node T) (es : List (Edge T)) (names : List (List ℕ)) (name : List ℕ) (more : List (List ℕ)) (k : ℕ) (e : Edge T) (v : T)
+    → es ≡ (out-Node T n).edges.items → names ≡ name ∷ more → are_well es ≡ true → k < length es → get_or (map edge_name es) k name ≡ name → e ≡ get_or es k e
+    → Some v ≡ option_map value_of (find (is_behind more) (below_node (out-Edge T e).node)) → Some v ≡ option_map value_of (find (is_behind names) (below_node n))
+behind_some {T} n es names name more k e v same split h l found is f =
+    front_found (edge_name e) v (filter (is_behind more) (below_node (out-Edge T e).node)) (below_all (drop (suc k) es))
+    (f ∙ ap (option_map value_of) (find_first (is_behind more) (below_node (out-Edge T e).node)))
+    ∙ behind_below n es names name more _ same split (behind_found es name more k e h l found is)
+
+pub behind_next : {T : Type 0} (n : Node T) (es : List (Edge T)) (names : List (List ℕ)) (name : List ℕ) (more : List (List ℕ)) (k : ℕ) (e : Edge T) (rest : List (Edge T))
+    → es ≡ (out-Node T n).edges.items → names ≡ name ∷ more → are_well es ≡ true → k < length es → get_or (map edge_name es) k name ≡ name → e ≡ get_or es k e
+    → None ≡ option_map value_of (find (is_behind more) (below_node (out-Edge T e).node)) → rest ≡ drop (suc k) es
+    → option_map value_of (slice_get (below_all rest) 0) ≡ option_map value_of (find (is_behind names) (below_node n))
+behind_next {T} n es names name more k e rest same split h l found is f r =
+    ap (λ t. option_map value_of (slice_get (below_all t) 0)) r
+    ∙ ap (option_map value_of) (first_is (below_all (drop (suc k) es))
+    ∙ front_none (edge_name e) (filter (is_behind more) (below_node (out-Edge T e).node)) (below_all (drop (suc k) es))
+    (f ∙ ap (option_map value_of) (find_first (is_behind more) (below_node (out-Edge T e).node))))
+    ∙ behind_below n es names name more _ same split (behind_found es name more k e h l found is)
+
+pub behind_gap : {T : Type 0} (n : Node T) (es : List (Edge T)) (names : List (List ℕ)) (name : List ℕ) (more : List (List ℕ)) (k : ℕ) (rest : List (Edge T))
+    → es ≡ (out-Node T n).edges.items → names ≡ name ∷ more
+    → list_all (comes_before name) (map edge_name (take k es)) ≡ true → list_all (comes_behind name) (map edge_name (drop k es)) ≡ true → rest ≡ drop k es
+    → option_map value_of (slice_get (below_all rest) 0) ≡ option_map value_of (find (is_behind names) (below_node n))
+behind_gap n es names name more k rest same split front back r =
+    ap (λ t. option_map value_of (slice_get (below_all t) 0)) r
+    ∙ ap (option_map value_of) (first_is (below_all (drop k es)))
+    ∙ behind_below n es names name more _ same split
+    (ap (λ t. filter (is_behind (name ∷ more)) (below_all t)) (sym (take-append-drop k es))
+    ∙ test_between (comes_before name) (comes_behind name) (is_behind (name ∷ more)) false true (take k es) (drop k es)
+    (λ n x a. behind_not name more n x a) (λ n x a. behind_is name more n x a) front back)
+
+pub behind_root : {T : Type 0} (n : Node T) (es : List (Edge T)) (names : List (List ℕ)) → es ≡ (out-Node T n).edges.items → names ≡ []
+    → option_map value_of (slice_get (below_all es) 0) ≡ option_map value_of (find (is_behind names) (below_node n))
+behind_root {T} n es names same split =
+    ap (option_map value_of)
+    (first_is (below_all es)
+    ∙ sym (ap (λ p. find (is_behind p) (below_node n)) split ∙ find_first (is_behind []) (below_node n)
+    ∙ ap (λ t. first_of (filter (is_behind []) t)) (below_node_out n)
+    ∙ ap first_of (behind_here (out-Node T n).value (out-Node T n).edges.items ∙ ap below_all (sym same))))
+
+-- ---- at prefixes of at least so many names
+
+nat_le_less : (a b : ℕ) → nat_le a (suc b) ≡ nat_le (a - 1) b
+nat_le_less a b = by (nat_le (a - 1) b) refl
+  where
+    by : (c : Bool) → nat_le (a - 1) b ≡ c → nat_le a (suc b) ≡ c
+    by true e = let h = leb-true (a - 1) b e in le-leb a (suc b) (omega (arith, h))
+    by false e = let h = leb-false (a - 1) b e in lt-leb a (suc b) (omega (arith, h))
+
+high_other : {T : Type 0} (name : List ℕ) (more : List (List ℕ)) (least : ℕ) (n : List ℕ) (x : Entry T) → same_name name n ≡ false → is_high (name ∷ more) least (put_in n x) ≡ false
+high_other name more least n x e = ap (λ b. b && nat_le least (length (n ∷ x.path))) (above_other name more n x e)
+
+high_same : {T : Type 0} (name : List ℕ) (more : List (List ℕ)) (least : ℕ) (x : Entry T) → is_high (name ∷ more) least (put_in name x) ≡ is_high more (least - 1) x
+high_same name more least x =
+    ap (λ b. b && nat_le least (length (name ∷ x.path))) (above_same name more x) ∙ ap (λ b. is_above more x && b) (nat_le_less least (length x.path))
+
+-- what stands at a node isn't among them where it wasn't found
+high_past : {T : Type 0} (v : Option T) (names : List (List ℕ)) (least : ℕ) (xs : List (Entry T)) → None ≡ cond (nat_eq least 0) v None
+    → filter (is_high names least) (own v ++ xs) ≡ filter (is_high names least) xs
+high_past None names least xs e = refl
+high_past (Some v) names zero xs e = cc
+high_past (Some v) names (suc k) xs e = ap (λ b. cond b (record { path = []; value = v } ∷ filter (is_high names (suc k)) xs) (filter (is_high names (suc k)) xs)) (lt-leb (suc k) 0 (omega arith))
+
+pub high_here : {T : Type 0} (n : Node T) (v : T) (names : List (List ℕ)) (least : ℕ) → Some v ≡ cond (nat_eq least 0) (out-Node T n).value None
+    → Some v ≡ option_map value_of (find (is_high names least) (below_node n))
+high_here {T} n v names least e = by (out-Node T n).value least e ∙ ap (λ t. option_map value_of (find (is_high names least) t)) (sym (below_node_out n))
+  where
+    by : (w : Option T) (least : ℕ) → Some v ≡ cond (nat_eq least 0) w None → Some v ≡ option_map value_of (find (is_high names least) (own w ++ below_all (out-Node T n).edges.items))
+    by None zero e = cc
+    by None (suc k) e = let none : Some v ≡ None = e ∙ ap (λ b. cond b None None) (eqb-suc-zero k) in cc
+    by (Some w) zero e = e
+    by (Some w) (suc k) e = let none : Some v ≡ None = e ∙ ap (λ b. cond b (Some w) None) (eqb-suc-zero k) in cc
+
+high_below : {T : Type 0} (n : Node T) (es : List (Edge T)) (names : List (List ℕ)) (name : List ℕ) (more : List (List ℕ)) (least : ℕ) (all : List (Entry T))
+    → es ≡ (out-Node T n).edges.items → names ≡ name ∷ more → None ≡ cond (nat_eq least 0) (out-Node T n).value None → filter (is_high (name ∷ more) least) (below_all es) ≡ all
+    → option_map value_of (first_of all) ≡ option_map value_of (find (is_high names least) (below_node n))
+high_below {T} n es names name more least all same split none e =
+    ap (λ t. option_map value_of (first_of t))
+    (sym (ap (λ p. filter (is_high p least) (below_node n)) split ∙ ap (filter (is_high (name ∷ more) least)) (below_node_out n)
+    ∙ high_past (out-Node T n).value (name ∷ more) least (below_all (out-Node T n).edges.items) none
+    ∙ ap (λ t. filter (is_high (name ∷ more) least) (below_all t)) (sym same) ∙ e))
+    ∙ ap (option_map value_of) (sym (find_first (is_high names least) (below_node n)))
+
+value_front : {T : Type 0} (n : List ℕ) (xs : List (Entry T)) → option_map value_of (first_of xs) ≡ option_map value_of (first_of (map (put_in n) xs ++ []))
+value_front n [] = refl
+value_front n (x ∷ xs) = refl
+
+pub high_found : {T : Type 0} (n : Node T) (es : List (Edge T)) (names : List (List ℕ)) (name : List ℕ) (more : List (List ℕ)) (least less k : ℕ) (e : Edge T)
+    → es ≡ (out-Node T n).edges.items → names ≡ name ∷ more → None ≡ cond (nat_eq least 0) (out-Node T n).value None → less ≡ least - 1
+    → are_well es ≡ true → k < length es → get_or (map edge_name es) k name ≡ name → e ≡ get_or es k e
+    → option_map value_of (find (is_high more less) (below_node (out-Edge T e).node)) ≡ option_map value_of (find (is_high names least) (below_node n))
+high_found {T} n es names name more least less k e same split none one h l found is =
+    ap (λ i. option_map value_of (find (is_high more i) (below_node (out-Edge T e).node))) one
+    ∙ ap (option_map value_of) (find_first (is_high more (least - 1)) (below_node (out-Edge T e).node))
+    ∙ value_front (edge_name e) (filter (is_high more (least - 1)) (below_node (out-Edge T e).node))
+    ∙ high_below n es names name more least _ same split none
+    (test_found (is_high (name ∷ more) least) (is_high more (least - 1)) es name k e (high_other name more least) (high_same name more least) h l found is)
+
+pub high_absent : {T : Type 0} (n : Node T) (es : List (Edge T)) (names : List (List ℕ)) (name : List ℕ) (more : List (List ℕ)) (least k : ℕ)
+    → es ≡ (out-Node T n).edges.items → names ≡ name ∷ more → None ≡ cond (nat_eq least 0) (out-Node T n).value None
+    → list_all (comes_before name) (map edge_name (take k es)) ≡ true → list_all (comes_behind name) (map edge_name (drop k es)) ≡ true
+    → None ≡ option_map value_of (find (is_high names least) (below_node n))
+high_absent n es names name more least k same split none front back =
+    high_below n es names name more least [] same split none (test_none (is_high (name ∷ more) least) es name k (high_other name more least) front back)
+
+all_of : (xs : List (List ℕ)) → list_all (λ x. true) xs ≡ true
+all_of [] = refl
+all_of (x ∷ xs) = all_of xs
+
+pub high_nowhere : {T : Type 0} (n : Node T) (names : List (List ℕ)) (least : ℕ) → names ≡ [] → None ≡ cond (nat_eq least 0) (out-Node T n).value None
+    → None ≡ option_map value_of (find (is_high names least) (below_node n))
+high_nowhere {T} n names least split none =
+    ap (option_map value_of)
+    (sym (ap (λ p. find (is_high p least) (below_node n)) split ∙ find_first (is_high [] least) (below_node n)
+    ∙ ap (λ t. first_of (filter (is_high [] least) t)) (below_node_out n)
+    ∙ ap first_of (high_past (out-Node T n).value [] least (below_all (out-Node T n).edges.items) none
+    ∙ alike_below (λ n. true) (is_high [] least) false (λ n x h. refl) (out-Node T n).edges.items (all_of (map edge_name (out-Node T n).edges.items)))))
