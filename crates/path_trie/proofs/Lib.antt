@@ -9,6 +9,7 @@ pub mod Order
 pub mod Picks
 pub mod RootLemmas
 pub mod Seeks
+pub mod Shortest
 pub mod ShownLemmas
 pub mod Told
 pub mod WalkLemmas

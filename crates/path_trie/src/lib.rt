@@ -4,6 +4,7 @@
 mod change;
 mod entry;
 mod find;
+mod laws;
 mod node;
 mod pick;
 mod seek;
@@ -12,6 +13,7 @@ mod trie;
 mod walk;
 
 pub use entry::Entry;
+pub use laws::cover_is_shortest;
 pub use steps::Steps;
 pub use trie::Trie;
 
