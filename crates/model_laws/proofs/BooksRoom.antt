@@ -1,10 +1,9 @@
 -- The limit on those who wait: where there is room for an entry, at most 64 wait behind it.
-use Rattle.std.proofs.Common.{◌≡◌, ℕ, ◌+◌, ◌≤◌, nat_lt, Bool, true, false, ◌||◌, List, [], ◌∷◌, Option, Some, None, cond, refl, sym, ap, subst, ◌∙◌, length, length-append, arith}
+use Rattle.std.proofs.Common.{◌≡◌, ℕ, ◌+◌, ◌≤◌, nat_lt, Bool, true, false, List, [], ◌∷◌, Option, Some, None, cond, refl, sym, ap, subst, ◌∙◌, length, length-append, arith}
 use Rattle.std.specs.List.{filter}
 use Rattle.std.proofs.lemmas.Bool.{ltb-false}
 use Rattle.mat_model.specs.declared.answers.Limit.{Limit}
 use Rattle.mat_model.specs.declared.answers.Limit.TheVariants as limit
-use Rattle.mat_model.specs.declared.answers.Reply.TheVariants as reply
 use Rattle.mat_model.specs.declared.book.Book.{Book}
 use Rattle.mat_model.specs.declared.book.Waiter.{Waiter}
 use Rattle.mat_model.specs.declared.entries.Entry.{Entry}
@@ -64,7 +63,7 @@ serve_short number context request book short within =
     })
 
 -- a limit that isn't the first one to be passed isn't passed
-none_parts : (b : Bool) (first : Limit) (rest : Option Limit) → cond b (Some first) rest ≡ None → (b ≡ false) × (rest ≡ None)
+pub none_parts : (b : Bool) (first : Limit) (rest : Option Limit) → cond b (Some first) rest ≡ None → (b ≡ false) × (rest ≡ None)
 none_parts true first rest none = absurd cc
 none_parts false first rest none = (refl, none)
 

@@ -31,3 +31,6 @@ pub mod RowLemmas
 pub mod StampLemmas
 pub mod FirstLemmas
 pub mod BelowLemmas
+pub mod RoomLists
+pub mod RoomCases
+pub mod RoomLemmas

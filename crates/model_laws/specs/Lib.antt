@@ -2,3 +2,4 @@ pub mod Laws
 pub mod RowRules
 pub mod FirstRules
 pub mod TicketRules
+pub mod RoomRules

@@ -4,6 +4,7 @@
 mod book_laws;
 mod first_laws;
 mod laws;
+mod room_laws;
 mod row_laws;
 mod ticket_laws;
 
@@ -20,6 +21,7 @@ pub use laws::{
     serve_keeps_apart, serve_keeps_gate, serve_keeps_standing, serve_keeps_tickets,
     write_is_declared,
 };
+pub use room_laws::{legal_history_is_within_limits, opening_is_within_limits, room_keeps_limits};
 pub use row_laws::{
     entry_keeps_stamps, entry_leaves_rows, gone_stamp_stays_gone, history_keeps_stamps,
     opening_keeps_stamps, stamp_names_row,
