@@ -1,18 +1,21 @@
 -- What a list of entries has at each path, with one more, or with those of one part alone.
 use Rattle.mat_path.proofs.Elements.{filter_all}
 use Rattle.mat_path.proofs.PathLemmas.{prefix-append}
-use Rattle.mat_path.proofs.SameNames.{is_prefix-Decides, same_names-Decides, same_names-behind, same_names-sym}
-use Rattle.std.proofs.Common.{◌≡◌, ℕ, Bool, true, false, cond, not, List, [], ◌∷◌, ◌++◌, length, drop, refl, ap, sym, ◌∙◌, ◌<◌, ◌+◌, take, get_or}
+use Rattle.mat_path.proofs.SameNames.{is_prefix-Decides, same_names-Decides, same_names-behind, same_names-eq, same_names-sym}
+use Rattle.std.proofs.Common.{◌≡◌, ℕ, Bool, true, false, cond, not, List, [], ◌∷◌, ◌++◌, length, drop, refl, ap, sym, ◌∙◌, ◌<◌, suc, take}
 use Rattle.std.specs.Prelude.{Option, Some, None}
-use Rattle.std.specs.List.{filter, list_all}
+use Rattle.std.specs.List.{filter, list_all, remove, slice_get}
 use Rattle.std.specs.Option.{option_map, option_or}
-use Rattle.std.proofs.lemmas.List.{take_more}
-use Rattle.region_port.specs.Reads.{file_bytes}
+use Rattle.std.proofs.Math.Seq.{drop-cons}
+use Rattle.std.proofs.lemmas.List.{take-append-drop}
+use Rattle.std.proofs.lemmas.Option.{get_or_from_slice_get}
+use Rattle.region_port.specs.Calls.{appended, with_more}
 use Rattle.mat_path.specs.Names.{same_names, is_prefix}
-use Rattle.mat_tree.specs.Parts.{below, without, with_node, replaced}
-use Rattle.region_port.specs.Entries.{latest, content_of, node_of, is_entry_at, path_of_entry, is_within, is_outside}
+use Rattle.mat_tree.specs.Parts.{Node, Part, below, without, with_node, replaced}
+use Rattle.region_port.specs.declared.entry.DiskNode.{DiskNode}
+use Rattle.region_port.specs.Entries.{latest, content_of, node_kept, node_of, is_entry_at, path_of_entry, is_within, is_outside}
 use Rattle.region_port.specs.declared.entry.Entry.{Entry}
-use Rattle.region_port.proofs.Latest.{latest-append, latest-push, latest-filter, option_or-none}
+use Rattle.region_port.proofs.Latest.{latest-append, latest-push, latest-filter, latest-passes, latest-skip, option_or-none}
 
 -- an entry more is the node at its path
 pub content_of-push : (entries : List Entry) (entry : Entry) (path : List (List ℕ)) → content_of (entries ++ entry ∷ []) path ≡ cond (same_names entry.path path) (Some (node_of entry)) (content_of entries path)
@@ -85,13 +88,47 @@ content_of-replaced place others inner all free =
         ap (λ l. content_of l q) (sym (filter_all (is_within path_of_entry place) inner all)) ∙ content_of-within place inner q ∙ ap (λ b. cond b (content_of inner q) None) e
         in ap (λ o. option_or o (content_of others q)) nothing
 
--- the bytes of a file, with one more of a list of entries
-pub bytes-more : (entries : List Entry) (i : ℕ) (entry : Entry) (path : List (List ℕ)) → i < length entries → entry ≡ get_or entries i entry
-    → cond (same_names entry.path path) (file_bytes (Some (node_of entry))) (file_bytes (content_of (take i entries) path)) ≡ file_bytes (content_of (take (i + 1) entries) path)
-bytes-more entries i entry path l e =
-    by (same_names entry.path path)
-    ∙ ap file_bytes (sym (ap (λ list. content_of list path) (take_more entries i entry l ∙ ap (λ x. take i entries ++ x ∷ []) (sym e)) ∙ content_of-push (take i entries) entry path))
+-- the part below a path, once the last entry at a rel made way for another node there, which stands behind all
+pub with_node-moved : (place rel : List (List ℕ)) (entries : List Entry) (i : ℕ) (entry : Entry) (node : DiskNode)
+    → i < length entries → slice_get entries i ≡ Some entry → latest (is_entry_at (place ++ rel)) entries ≡ slice_get entries i
+    → below place (content_of (remove entries i ++ record { path = entry.path; node = node } ∷ [])) ≡ with_node rel (node_kept node) (below place (content_of entries))
+with_node-moved place rel entries i entry node l at found =
+    let others = remove entries i in
+    let path : entry.path ≡ place ++ rel = same_names-eq entry.path (place ++ rel) (latest-passes (is_entry_at (place ++ rel)) entries entry (found ∙ at)) in
+    let all : entries ≡ take i entries ++ entry ∷ drop (suc i) entries =
+    sym (take-append-drop i entries) ∙ ap (λ ys. take i entries ++ ys) (drop-cons entries i entry l ∙ ap (λ x. x ∷ drop (suc i) entries) (get_or_from_slice_get entries i entry entry at)) in
+    let same : (q : List (List ℕ)) → same_names q rel ≡ false → content_of others (place ++ q) ≡ content_of entries (place ++ q) =
+    λ q h. ap (option_map node_of)
+    (sym (ap (latest (is_entry_at (place ++ q))) all
+    ∙ latest-skip (is_entry_at (place ++ q)) (take i entries) entry (drop (suc i) entries)
+    (ap (λ p. same_names p (place ++ q)) path ∙ same_names-behind place rel q ∙ same_names-sym rel q ∙ h))) in
+    let each : (q : List (List ℕ)) → with_node rel (node_kept node) (below place (content_of others)) q ≡ with_node rel (node_kept node) (below place (content_of entries)) q =
+    λ q. by q (same_names q rel) refl (same q) in
+    with_node-push place rel others (record { path = entry.path; node = node }) path ∙ (λ i q. each q i)
   where
-    by : (b : Bool) → cond b (file_bytes (Some (node_of entry))) (file_bytes (content_of (take i entries) path)) ≡ file_bytes (cond b (Some (node_of entry)) (content_of (take i entries) path))
-    by true = refl
-    by false = refl
+    by : (q : List (List ℕ)) (b : Bool) → same_names q rel ≡ b → (same_names q rel ≡ false → content_of (remove entries i) (place ++ q) ≡ content_of entries (place ++ q))
+        → cond b (Some (node_kept node)) (content_of (remove entries i) (place ++ q)) ≡ cond b (Some (node_kept node)) (content_of entries (place ++ q))
+    by q true h same = refl
+    by q false h same = same h
+
+-- the node that the last entry at a rel keeps
+pub found_node : (place rel : List (List ℕ)) (entries : List Entry) (i : ℕ) (entry : Entry) → slice_get entries i ≡ Some entry
+    → latest (is_entry_at (place ++ rel)) entries ≡ slice_get entries i → below place (content_of entries) rel ≡ Some (node_of entry)
+found_node place rel entries i entry at found = ap (option_map node_of) (found ∙ at)
+
+-- a part with the node at a rel that it has there
+pub with_node-same : (rel : List (List ℕ)) (node : Node) (part : Part) → part rel ≡ Some node → with_node rel node part ≡ part
+with_node-same rel node part e =
+    let each : (q : List (List ℕ)) → with_node rel node part q ≡ part q = λ q. by q (same_names q rel) refl in
+    λ i q. each q i
+  where
+    by : (q : List (List ℕ)) (b : Bool) → same_names q rel ≡ b → cond b (Some node) (part q) ≡ part q
+    by q true h = sym (ap part (same_names-eq q rel h) ∙ e)
+    by q false h = refl
+
+-- an append, as a put of the node that it makes
+pub appended-with : (rel : List (List ℕ)) (more : List ℕ) (node : Node) (part : Part) → part rel ≡ Some node → with_node rel (with_more more node) part ≡ appended rel more part
+appended-with rel more node part e =
+    let each : (q : List (List ℕ)) → with_node rel (with_more more node) part q ≡ appended rel more part q =
+    λ q. ap (λ o. cond (same_names q rel) o (part q)) (sym (ap (option_map (with_more more)) e)) in
+    λ i q. each q i

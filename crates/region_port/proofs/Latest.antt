@@ -1,9 +1,11 @@
 -- The last element that passes a test, in a list with more elements or with fewer.
-use Rattle.std.proofs.Common.{◌≡◌, Bool, true, false, ◌&&◌, cond, List, [], ◌∷◌, ◌++◌, refl, ap, sym, ◌∙◌}
+use Rattle.std.proofs.Common.{◌≡◌, ℕ, ◌+◌, ◌<◌, Bool, true, false, ◌&&◌, cond, List, [], ◌∷◌, ◌++◌, length, map, take, drop, get_or, refl, ap, sym, ◌∙◌}
+use Rattle.std.proofs.lemmas.List.{drop_more, take-append-drop}
 use Rattle.std.specs.Prelude.{Option, Some, None}
+use Rattle.std.proofs.lemmas.Option.{none-some, same_Some}
 use Rattle.std.specs.List.{filter, list_all}
 use mathlib.Core.Bool.{true≢false}
-use Rattle.std.specs.Option.{option_or}
+use Rattle.std.specs.Option.{option_map, option_or}
 use Rattle.region_port.specs.Entries.{latest}
 
 -- an answer, or else nothing, is the answer
@@ -58,3 +60,44 @@ all_filter {X} p (x ∷ xs) = by (p x) refl (all_filter p xs)
     by : (b : Bool) → p x ≡ b → list_all p (filter p xs) ≡ true → list_all p (cond b (x ∷ filter p xs) (filter p xs)) ≡ true
     by true h e = ap (λ b. b && list_all p (filter p xs)) h ∙ e
     by false h e = e
+
+-- the last element that passes, where none behind it does
+pub latest-here : {X : Type 0} (p : X → Bool) (xs : List X) (i : ℕ) (x : X) → i < length xs → x ≡ get_or xs i x → p x ≡ true → latest p (drop (i + 1) xs) ≡ None → latest p xs ≡ Some x
+latest-here {X} p xs i x l e h none =
+    let rest : drop i xs ≡ x ∷ drop (i + 1) xs = drop_more xs i x l ∙ ap (λ y. y ∷ drop (i + 1) xs) (sym e) in
+    ap (latest p) (sym (take-append-drop i xs))
+    ∙ latest-append p (take i xs) (drop i xs)
+    ∙ ap (λ ys. option_or (latest p ys) (latest p (take i xs))) rest
+    ∙ ap (λ o. option_or (option_or o (cond (p x) (Some x) None)) (latest p (take i xs))) none
+    ∙ ap (λ b. option_or (cond b (Some x) None) (latest p (take i xs))) h
+
+-- one that doesn't pass makes no difference
+pub latest-skip : {X : Type 0} (p : X → Bool) (xs : List X) (x : X) (ys : List X) → p x ≡ false → latest p (xs ++ x ∷ ys) ≡ latest p (xs ++ ys)
+latest-skip {X} p xs x ys h =
+    latest-append p xs (x ∷ ys)
+    ∙ ap (λ b. option_or (option_or (latest p ys) (cond b (Some x) None)) (latest p xs)) h
+    ∙ ap (λ o. option_or o (latest p xs)) (option_or-none (latest p ys))
+    ∙ sym (latest-append p xs ys)
+
+-- the last element that passes does pass
+pub latest-passes : {X : Type 0} (p : X → Bool) (xs : List X) (x : X) → latest p xs ≡ Some x → p x ≡ true
+latest-passes p [] x e = absurd (none-some x e)
+latest-passes {X} p (y ∷ ys) x e = by (latest p ys) (latest-passes p ys x) (p y) refl e
+  where
+    by : (l : Option X) → (l ≡ Some x → p x ≡ true) → (b : Bool) → p y ≡ b → option_or l (cond b (Some y) None) ≡ Some x → p x ≡ true
+    by (Some z) rest b h e = rest e
+    by None rest true h e = ap p (sym (same_Some y x e)) ∙ h
+    by None rest false h e = absurd (none-some x e)
+
+-- a function that the test can't see through changes the last element that passes
+pub latest-map : {X : Type 0} (p : X → Bool) (f : X → X) → ((x : X) → p (f x) ≡ p x) → (xs : List X) → latest p (map f xs) ≡ option_map f (latest p xs)
+latest-map p f same [] = refl
+latest-map {X} p f same (x ∷ xs) =
+    ap (λ o. option_or o (cond (p (f x)) (Some (f x)) None)) (latest-map p f same xs)
+    ∙ ap (λ b. option_or (option_map f (latest p xs)) (cond b (Some (f x)) None)) (same x)
+    ∙ by (latest p xs) (p x)
+  where
+    by : (l : Option X) (b : Bool) → option_or (option_map f l) (cond b (Some (f x)) None) ≡ option_map f (option_or l (cond b (Some x) None))
+    by (Some y) b = refl
+    by None true = refl
+    by None false = refl

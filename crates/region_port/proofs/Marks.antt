@@ -1,12 +1,15 @@
 -- The rough paths of a list, with more paths, or with those of one part alone.
-use Rattle.mat_path.proofs.SameNames.{same_names-Decides}
-use Rattle.std.proofs.Common.{◌≡◌, ℕ, Bool, true, false, ◌||◌, not, List, [], ◌∷◌, ◌++◌, refl, ap, sym, ◌∙◌}
-use Rattle.std.specs.List.{filter}
+use Rattle.mat_path.proofs.Elements.{filter_all}
+use Rattle.mat_path.proofs.SameNames.{is_prefix-refl, same_names-Decides}
+use Rattle.std.proofs.Common.{◌≡◌, ℕ, Bool, true, false, ◌&&◌, ◌||◌, not, List, [], ◌∷◌, ◌++◌, refl, ap, sym, ◌∙◌}
+use Rattle.std.specs.List.{filter, list_all}
+use Rattle.std.proofs.lemmas.Bool.{false_from_ne_true}
+use mathlib.Core.Bool.{true≢false}
 use Rattle.std.proofs.lemmas.List.Folds.{list_any-append}
 use Rattle.std.proofs.lemmas.Map.Views.{any-filter_same}
 use Rattle.mat_path.specs.Names.{same_names, is_prefix}
 use Rattle.region_port.specs.Calls.{paths_below, paths_outside, paths_of_both, with_path}
-use Rattle.region_port.specs.Entries.{paths_of, is_within, is_outside}
+use Rattle.region_port.specs.Entries.{paths_of, is_within, is_outside, rough_paths}
 
 -- of the paths at or below one, the rough ones are those of the list that are there
 pub paths_of-within : (place : List (List ℕ)) (list : List (List (List ℕ))) → paths_of (filter (is_within (λ p. p) place) list) ≡ paths_below place (paths_of list)
@@ -41,3 +44,22 @@ paths_of-push list place =
     swap true false = refl
     swap false true = refl
     swap false false = refl
+
+-- the rough paths of a region are at or below its place
+pub rough_paths-within : (whole : Bool) (place : List (List ℕ)) (list : List (List (List ℕ))) → list_all (is_prefix place) list ≡ true → paths_below place (rough_paths whole place list) ≡ rough_paths whole place list
+rough_paths-within whole place list all =
+    let kept : paths_of list ≡ paths_below place (paths_of list) =
+    ap paths_of (sym (filter_all (is_within (λ p. p) place) list all)) ∙ paths_of-within place list in
+    let each : (q : List (List ℕ)) → paths_below place (rough_paths whole place list) q ≡ rough_paths whole place list q =
+    λ q. by q (is_prefix place q) refl (ap (λ paths. paths q) kept) in
+    λ i q. each q i
+  where
+    no : (a : Bool) → (a && false) ≡ false
+    no true = refl
+    no false = refl
+
+    by : (q : List (List ℕ)) (b : Bool) → is_prefix place q ≡ b → paths_of list q ≡ (is_prefix place q && paths_of list q) → (b && rough_paths whole place list q) ≡ rough_paths whole place list q
+    by q true h e = refl
+    by q false h e =
+        let elsewhere : same_names q place ≡ false = false_from_ne_true (same_names q place) (λ k. true≢false (sym (is_prefix-refl place q k) ∙ h)) in
+        sym (ap (λ b. (whole && b) || paths_of list q) elsewhere ∙ ap (λ b. b || paths_of list q) (no whole) ∙ e ∙ ap (λ b. b && paths_of list q) h)

@@ -2,7 +2,7 @@
 use Rattle.mat_path.proofs.JoinLemmas.{joined-tail}
 use Rattle.mat_path.proofs.SameNames.{is_prefix-Decides, same_names-Decides, same_names-sym}
 use Rattle.mat_tree.proofs.Ascending.{after_head}
-use Rattle.std.proofs.Common.{◌≡◌, ℕ, ◌+◌, ◌≤◌, Bool, true, false, ◌&&◌, cond, List, [], ◌∷◌, ◌++◌, length, drop, map, refl, ap, sym, ◌∙◌, arith, append_assoc, length-append, Bor, take, get_or, ◌<◌}
+use Rattle.std.proofs.Common.{◌≡◌, ℕ, ◌+◌, ◌≤◌, Bool, true, false, ◌&&◌, cond, List, [], ◌∷◌, ◌++◌, length, drop, map, refl, ap, subst, sym, ◌∙◌, arith, append_assoc, length-append, Bor, take, get_or, ◌<◌}
 use Rattle.std.specs.Prelude.{Option, Some, None, nat_le, Result, Ok, Err, IfOk}
 use Rattle.std.proofs.lemmas.List.{take_more}
 use Rattle.std.specs.List.{find, list_all}
@@ -21,12 +21,16 @@ use Rattle.std.specs.Ordering.{is_lt}
 use Rattle.std.specs.List.Sorted.{IsStrictlySortedBy}
 use Rattle.mat_path.specs.Order.{same_names_ties}
 use Rattle.mat_path.specs.Names.{is_rel, is_name, joined, is_prefix, same_names, path_cmp, rest_below}
-use Rattle.mat_tree.specs.Parts.{declared_by, Node}
+use Rattle.mat_tree.specs.Parts.{below, declared_by, Node}
 use Rattle.mat_tree.specs.Trees.{ascends, is_after, is_at, what_at, what_of}
 use Rattle.mat_tree.specs.declared.flat.What.{What}
 use Rattle.region_port.specs.declared.entry.Entry.{Entry}
 use Rattle.region_port.specs.Entries.{content_of, node_of}
-use Rattle.region_port.specs.Listing.{flat_from, flats_of, shown}
+use Rattle.region_port.specs.Listing.{HasMany, HasNodes, IsInOrder, most_nodes, flat_from, flats_of, form_at, form_of, form_seen, is_seen_at, rel_seen, seen_from, seen_of, shown}
+use Rattle.region_port.specs.declared.listed.Form.{Form}
+use Rattle.region_port.specs.declared.listed.Seen.{Seen}
+use Rattle.std.proofs.lemmas.List.{length-map}
+use Rattle.region_port.proofs.Latest.{option_or-none}
 use Rattle.region_port.specs.Lists.{all_of}
 use Rattle.region_port.proofs.Content.{content_of-push, content_of-append}
 
@@ -67,18 +71,18 @@ below-none p q rel e = by (same_names q (p ++ rel)) refl
     by false k = refl
 
 -- an entry more
-pub shown-push : (path : List (List ℕ)) (entries : List Entry) (entry : Entry) (rel : List (List ℕ)) → shown path (entries ++ entry ∷ []) rel ≡ cond (same_names entry.path (path ++ rel)) (Some (declared_by (node_of entry))) (shown path entries rel)
-shown-push path entries entry rel = ap (option_map declared_by) (content_of-push entries entry (path ++ rel)) ∙ by (same_names entry.path (path ++ rel))
+pub shown-push : {V : Type 0} (show : Node → V) (path : List (List ℕ)) (entries : List Entry) (entry : Entry) (rel : List (List ℕ)) → shown show path (entries ++ entry ∷ []) rel ≡ cond (same_names entry.path (path ++ rel)) (Some (show (node_of entry))) (shown show path entries rel)
+shown-push show path entries entry rel = ap (option_map show) (content_of-push entries entry (path ++ rel)) ∙ by (same_names entry.path (path ++ rel))
   where
-    by : (b : Bool) → option_map declared_by (cond b (Some (node_of entry)) (content_of entries (path ++ rel))) ≡ cond b (Some (declared_by (node_of entry))) (shown path entries rel)
+    by : (b : Bool) → option_map show (cond b (Some (node_of entry)) (content_of entries (path ++ rel))) ≡ cond b (Some (show (node_of entry))) (shown show path entries rel)
     by true = refl
     by false = refl
 
 -- more entries
-pub shown-append : (path : List (List ℕ)) (xs ys : List Entry) (rel : List (List ℕ)) → shown path (xs ++ ys) rel ≡ option_or (shown path ys rel) (shown path xs rel)
-shown-append path xs ys rel = ap (option_map declared_by) (content_of-append xs ys (path ++ rel)) ∙ by (content_of ys (path ++ rel)) (content_of xs (path ++ rel))
+pub shown-append : {V : Type 0} (show : Node → V) (path : List (List ℕ)) (xs ys : List Entry) (rel : List (List ℕ)) → shown show path (xs ++ ys) rel ≡ option_or (shown show path ys rel) (shown show path xs rel)
+shown-append show path xs ys rel = ap (option_map show) (content_of-append xs ys (path ++ rel)) ∙ by (content_of ys (path ++ rel)) (content_of xs (path ++ rel))
   where
-    by : (a b : Option Node) → option_map declared_by (option_or a b) ≡ option_or (option_map declared_by a) (option_map declared_by b)
+    by : (a b : Option Node) → option_map show (option_or a b) ≡ option_or (option_map show a) (option_map show b)
     by None b = refl
     by (Some x) b = refl
 
@@ -87,17 +91,56 @@ pub all_of-pushed : {X : Type 0} (segments : List (Bor (Vec X Global))) (segment
 all_of-pushed [] segment = append-nil segment.now.items
 all_of-pushed (first ∷ segments) segment = ap (λ rest. first.now.items ++ rest) (all_of-pushed segments segment) ∙ sym (append_assoc first.now.items (all_of (map (λ s. s.now) segments)) segment.now.items)
 
--- what a list of nodes has at a rel
-pub what_at-flats : (pairs : List (List (List ℕ) × What)) (rel : List (List ℕ)) → what_at (flats_of pairs) rel ≡ lookup (is_at_key (path_cmp rel)) pairs
-what_at-flats [] rel = refl
-what_at-flats (pair ∷ pairs) rel = by (same_names pair.0 rel) (is_at_key (path_cmp rel) pair.0) (same_names-sym pair.0 rel ∙ same_names_ties rel pair.0) (what_at-flats pairs rel)
+-- what is found among nodes that were made of pairs is what the pairs have
+found_in : {V N : Type 0} (make : List (List ℕ) × V → N) (test : N → Bool) (view : N → V) (rel : List (List ℕ))
+    → ((pair : List (List ℕ) × V) → test (make pair) ≡ same_names pair.0 rel) → ((pair : List (List ℕ) × V) → view (make pair) ≡ pair.1)
+    → (pairs : List (List (List ℕ) × V)) → option_map view (find test (map make pairs)) ≡ lookup (is_at_key (path_cmp rel)) pairs
+found_in make test view rel here told [] = refl
+found_in {V} {N} make test view rel here told (pair ∷ pairs) =
+    by (test (make pair)) (is_at_key (path_cmp rel) pair.0) (here pair ∙ same_names-sym pair.0 rel ∙ same_names_ties rel pair.0) (found_in make test view rel here told pairs)
   where
-    by : (a b : Bool) → a ≡ b → option_map what_of (find (is_at rel) (flats_of pairs)) ≡ lookup (is_at_key (path_cmp rel)) pairs
-        → option_map what_of (cond a (Some (flat_from pair)) (find (is_at rel) (flats_of pairs))) ≡ cond b (Some pair.1) (lookup (is_at_key (path_cmp rel)) pairs)
-    by true true e h = refl
+    by : (a b : Bool) → a ≡ b → option_map view (find test (map make pairs)) ≡ lookup (is_at_key (path_cmp rel)) pairs
+        → option_map view (cond a (Some (make pair)) (find test (map make pairs))) ≡ cond b (Some pair.1) (lookup (is_at_key (path_cmp rel)) pairs)
+    by true true e h = ap Some (told pair)
     by true false e h = absurd (true≢false e)
     by false true e h = absurd (true≢false (sym e))
     by false false e h = h
+
+-- what a list of nodes has at a rel
+pub what_at-flats : (pairs : List (List (List ℕ) × What)) (rel : List (List ℕ)) → what_at (flats_of pairs) rel ≡ lookup (is_at_key (path_cmp rel)) pairs
+what_at-flats pairs rel = found_in flat_from (is_at rel) what_of rel (λ pair. refl) (λ pair. refl) pairs
+
+-- the same of forms
+pub form_at-seen : (pairs : List (List (List ℕ) × Form)) (rel : List (List ℕ)) → form_at (seen_of pairs) rel ≡ lookup (is_at_key (path_cmp rel)) pairs
+form_at-seen pairs rel = found_in seen_from (is_seen_at rel) form_seen rel (λ pair. refl) (λ pair. refl) pairs
+
+-- the rels of forms are those of their pairs
+rels_of-seen : (pairs : List (List (List ℕ) × Form)) → map rel_seen (seen_of pairs) ≡ keys_of pairs
+rels_of-seen [] = refl
+rels_of-seen (pair ∷ pairs) = ap (λ rels. pair.0 ∷ rels) (rels_of-seen pairs)
+
+-- the forms of a map are in order
+pub in_order-seen : (pairs : List (List (List ℕ) × Form)) → IsStrictlySortedBy path_cmp (keys_of pairs) → IsInOrder (seen_of pairs)
+in_order-seen pairs s = subst (IsStrictlySortedBy path_cmp) (sym (rels_of-seen pairs)) s
+
+-- a map that has what is shown of some entries has their nodes
+pub has_nodes-seen : (path : List (List ℕ)) (entries : List Entry) (pairs : List (List (List ℕ) × Form))
+    → ((rel : List (List ℕ)) → lookup (is_at_key (path_cmp rel)) pairs ≡ option_or (shown form_of path entries rel) None) → HasNodes (below path (content_of entries)) (seen_of pairs)
+has_nodes-seen path entries pairs has rel = sym (form_at-seen pairs rel ∙ has rel ∙ option_or-none (shown form_of path entries rel))
+
+-- so that list is what a region answers
+pub lists-seen : (path : List (List ℕ)) (entries : List Entry) (pairs : List (List (List ℕ) × Form)) (nodes : List Seen) → nodes ≡ seen_of pairs → IsStrictlySortedBy path_cmp (keys_of pairs)
+    → length pairs ≤ most_nodes → ((rel : List (List ℕ)) → lookup (is_at_key (path_cmp rel)) pairs ≡ option_or (shown form_of path entries rel) None)
+    → IsInOrder nodes × (length nodes ≤ most_nodes) × HasNodes (below path (content_of entries)) nodes
+lists-seen path entries pairs nodes e s few has =
+    subst (λ nodes. IsInOrder nodes × (length nodes ≤ most_nodes) × HasNodes (below path (content_of entries)) nodes) (sym e)
+    (in_order-seen pairs s, omega (arith, length-map pairs seen_from), has_nodes-seen path entries pairs has)
+
+-- a longer list is why it answers that there are too many
+pub many-seen : (path : List (List ℕ)) (entries : List Entry) (pairs : List (List (List ℕ) × Form)) → IsStrictlySortedBy path_cmp (keys_of pairs)
+    → most_nodes < length pairs → ((rel : List (List ℕ)) → lookup (is_at_key (path_cmp rel)) pairs ≡ option_or (shown form_of path entries rel) None)
+    → HasMany (Some (below path (content_of entries)))
+many-seen path entries pairs s many has = (seen_of pairs, in_order-seen pairs s, has_nodes-seen path entries pairs has, omega (arith, length-map pairs seen_from))
 
 -- the rels of a map ascend
 pub ascends-flats : (pairs : List (List (List ℕ) × What)) → IsStrictlySortedBy path_cmp (keys_of pairs) → ascends (flats_of pairs) ≡ true
@@ -112,13 +155,13 @@ ascends-flats (pair ∷ next ∷ pairs) s =
     rest
 
 -- one more of a list of entries
-pub shown-more : (path : List (List ℕ)) (entries : List Entry) (i : ℕ) (entry : Entry) (rel : List (List ℕ)) (before : Option What) → i < length entries → entry ≡ get_or entries i entry
-    → cond (same_names entry.path (path ++ rel)) (Some (declared_by (node_of entry))) (option_or (shown path (take i entries) rel) before) ≡ option_or (shown path (take (i + 1) entries) rel) before
-shown-more path entries i entry rel before l e =
-    by (same_names entry.path (path ++ rel)) (shown path (take i entries) rel)
-    ∙ ap (λ s. option_or s before) (sym (ap (λ list. shown path list rel) (take_more entries i entry l ∙ ap (λ x. take i entries ++ x ∷ []) (sym e)) ∙ shown-push path (take i entries) entry rel))
+pub shown-more : {V : Type 0} (show : Node → V) (path : List (List ℕ)) (entries : List Entry) (i : ℕ) (entry : Entry) (rel : List (List ℕ)) (before : Option V) → i < length entries → entry ≡ get_or entries i entry
+    → cond (same_names entry.path (path ++ rel)) (Some (show (node_of entry))) (option_or (shown show path (take i entries) rel) before) ≡ option_or (shown show path (take (i + 1) entries) rel) before
+shown-more {V} show path entries i entry rel before l e =
+    by (same_names entry.path (path ++ rel)) (shown show path (take i entries) rel)
+    ∙ ap (λ s. option_or s before) (sym (ap (λ list. shown show path list rel) (take_more entries i entry l ∙ ap (λ x. take i entries ++ x ∷ []) (sym e)) ∙ shown-push show path (take i entries) entry rel))
   where
-    by : (b : Bool) (s : Option What) → cond b (Some (declared_by (node_of entry))) (option_or s before) ≡ option_or (cond b (Some (declared_by (node_of entry))) s) before
+    by : (b : Bool) (s : Option V) → cond b (Some (show (node_of entry))) (option_or s before) ≡ option_or (cond b (Some (show (node_of entry))) s) before
     by true s = refl
     by false s = refl
 

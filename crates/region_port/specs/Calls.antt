@@ -1,10 +1,10 @@
 -- What each call on a region does to its part and to its rough paths, by what it answers.
-use Rattle.std.specs.Prelude.{◌≡◌, ◌&&◌, ◌||◌, ◌⊎◌, ℕ, Bool, true, false, not, List, Option, Some, None}
+use Rattle.std.specs.Prelude.{◌≡◌, ◌&&◌, ◌||◌, ◌⊎◌, ◌++◌, ℕ, Bool, true, false, not, if◌then◌else◌, List, Option, Some, None}
 use Rattle.std.specs.Option.{option_map, is_some}
 use Rattle.mat_io.specs.declared.answer.Did.{Did}
 use Rattle.mat_io.specs.declared.answer.Did.TheVariants as did
 use Rattle.mat_path.specs.Names.{is_prefix, same_names}
-use Rattle.mat_tree.specs.Parts.{Part, Node, bare, with_node, replaced}
+use Rattle.mat_tree.specs.Parts.{Part, Node, bare, file, folder, link, with_node, replaced}
 
 -- a set of paths, as those of the rough parts
 abbrev pub Paths : Type 0
@@ -46,11 +46,34 @@ Puts rel node did.Done before now = now ≡ option_map (with_node rel node) befo
 Puts rel node did.Failed before now = is_some now ≡ is_some before
 Puts rel node did.NoMemory before now = is_some now ≡ is_some before
 
+-- a file with these bytes at its end; a folder and a link stay as they are
+abbrev pub with_more : List ℕ → Node → Node
+with_more more folder = folder
+with_more more (file bytes exec) = file (bytes ++ more) exec
+with_more more (link target) = link target
+
+-- a part whose file at a rel has these bytes at its end
+abbrev pub appended : List (List ℕ) → List ℕ → Part → Part
+appended rel more part place = if same_names place rel then option_map (with_more more) (part rel) else part place
+
+-- whether a node is a file
+abbrev pub is_file : Option Node → Bool
+is_file None = false
+is_file (Some folder) = false
+is_file (Some (file bytes exec)) = true
+is_file (Some (link target)) = false
+
+-- an append that is done leaves the file at the rel with more bytes and every other node; one that isn't may have changed the part
+abbrev pub Appends : List (List ℕ) → List ℕ → Did → Option Part → Option Part → Type 0
+Appends rel more did.Done before now = now ≡ option_map (appended rel more) before
+Appends rel more did.Failed before now = is_some now ≡ is_some before
+Appends rel more did.NoMemory before now = is_some now ≡ is_some before
+
 -- the rough paths stay, or the whole part is rough too
 abbrev pub MayRoughen : List (List ℕ) → Paths → Paths → Type 0
 MayRoughen place before now = (now ≡ before) ⊎ (now ≡ with_path place before)
 
--- a wipe or put that is done makes the whole part rough; one that isn't may do so
+-- a wipe, put or append that is done makes the whole part rough; one that isn't may do so
 abbrev pub Roughens : List (List ℕ) → Did → Paths → Paths → Type 0
 Roughens place did.Done before now = now ≡ with_path place before
 Roughens place did.Failed before now = MayRoughen place before now

@@ -2,8 +2,9 @@
 use Rattle.std.specs.Prelude.{ℕ, Bool, List}
 use Rattle.mat_tree.specs.Parts.{Part}
 use Rattle.region_port.specs.Calls.{Paths}
-use Rattle.region_port.specs.Entries.{content_of, paths_of}
+use Rattle.region_port.specs.Entries.{content_of, paths_of, watch_of}
 use Rattle.region_port.specs.Lists.{all_of}
+use Rattle.region_port.specs.Watches.{Watch}
 use Rattle.region_port.specs.declared.counts.Counts.{Counts}
 use Rattle.region_port.specs.declared.mem_disk.MemDisk.{MemDisk}
 
@@ -31,3 +32,7 @@ disk_faults disk = disk.counts.faults
 
 abbrev pub is_disk_armed : MemDisk → Bool
 is_disk_armed disk = disk.counts.armed
+
+-- its calls, and whether the next one is to fail
+abbrev pub disk_watch : MemDisk → Watch
+disk_watch disk = watch_of disk.counts

@@ -10,6 +10,7 @@ use Rattle.region_port.specs.declared.entry.Entry.{Entry}
 use Rattle.region_port.specs.declared.entry.DiskNode.{DiskNode}
 use Rattle.region_port.specs.declared.entry.DiskNode.TheVariants as kept
 use Rattle.region_port.specs.declared.counts.Counts.{Counts}
+use Rattle.region_port.specs.Watches.{Watch}
 
 -- the node that an entry keeps
 abbrev pub node_kept : DiskNode → Node
@@ -67,3 +68,7 @@ joined_counts counts more =
 abbrev pub entered : Counts → Counts
 entered counts =
     record { calls = risen counts.calls; faults = if counts.armed then risen counts.faults else counts.faults; armed = false }
+
+-- what a device in memory tells by its counts
+abbrev pub watch_of : Counts → Watch
+watch_of counts = record { calls = counts.calls; armed = counts.armed }

@@ -1,4 +1,5 @@
 pub mod Calls
+pub mod Crashes
 pub mod Disks
 pub mod Entries
 pub mod Listing
@@ -6,3 +7,5 @@ pub mod Lists
 pub mod Memory
 pub mod Reads
 pub mod States
+pub mod Strays
+pub mod Watches

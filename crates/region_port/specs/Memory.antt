@@ -2,7 +2,8 @@
 use Rattle.std.specs.Prelude.{ℕ, Bool, List}
 use Rattle.mat_tree.specs.Parts.{Part, below}
 use Rattle.region_port.specs.Calls.{Paths}
-use Rattle.region_port.specs.Entries.{content_of, rough_paths}
+use Rattle.region_port.specs.Entries.{content_of, rough_paths, watch_of}
+use Rattle.region_port.specs.Watches.{Watch}
 use Rattle.region_port.specs.declared.counts.Counts.{Counts}
 use Rattle.region_port.specs.declared.mem_region.MemRegion.{MemRegion}
 
@@ -30,3 +31,7 @@ region_faults region = region.counts.faults
 
 abbrev pub is_region_armed : MemRegion → Bool
 is_region_armed region = region.counts.armed
+
+-- its calls, and whether the next one is to fail
+abbrev pub region_watch : MemRegion → Watch
+region_watch region = watch_of region.counts

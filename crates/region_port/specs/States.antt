@@ -1,9 +1,12 @@
 -- What a part in each of its states keeps, and what settling or emptying one answers.
-use Rattle.std.specs.Prelude.{◌≡◌, Bool, true, false, List}
+use Rattle.std.specs.Prelude.{◌≡◌, Bool, true, false, List, Option, Some, None}
 use Rattle.mat_tree.specs.declared.flat.Flat.{Flat}
 use Rattle.region_port.specs.Calls.{Paths}
 use Rattle.region_port.specs.declared.port.Region.{Ghosts}
 use Rattle.region_port.specs.declared.states.Bare.{Bare}
+use Rattle.region_port.specs.declared.states.Part.{Part}
+use Rattle.region_port.specs.declared.states.Part.TheVariants as state
+use Rattle.region_port.specs.declared.states.ReadLoan.{ReadLoan}
 use Rattle.region_port.specs.declared.states.Rough.{Rough}
 use Rattle.region_port.specs.declared.states.Settled.{Settled}
 use Rattle.region_port.specs.declared.states.Synced.{Synced}
@@ -23,6 +26,29 @@ settled_tree part = part.tree
 -- the region of a bare part
 abbrev pub bare_region : {R : Type 0} {g : Ghosts R} → Bare R g → R
 bare_region part = part.region
+
+-- the region of a part that is only read, and the tree that it was lent for
+abbrev pub loan_region : {R : Type 0} → ReadLoan R → R
+loan_region part = part.region
+
+abbrev pub loan_tree : {R : Type 0} → ReadLoan R → List Flat
+loan_tree part = part.tree
+
+-- the region of a part in any state
+abbrev pub state_region : {R : Type 0} {g : Ghosts R} → Part R g → R
+state_region (state.Rough part) = part.region
+state_region (state.Settled part) = part.region
+state_region (state.Bare part) = part.region
+
+-- the tree that a part in any state is known to have
+abbrev pub state_tree : {R : Type 0} {g : Ghosts R} → Part R g → Option (List Flat)
+state_tree (state.Rough part) = None
+state_tree (state.Settled part) = Some part.tree
+state_tree (state.Bare part) = None
+
+-- the rough paths of a part in any state
+abbrev pub state_rough : {R : Type 0} {g : Ghosts R} → Part R g → Paths
+state_rough {R} {g} part = g.rough (state_region part)
 
 -- the region of an answer
 abbrev pub region_in : {R : Type 0} {g : Ghosts R} → Synced R g → R

@@ -1,8 +1,10 @@
-/// What reading a file answers.
+use mat_path::Items;
+
+/// What reading a piece of a file answers.
 #[derive(Debug, Drop)]
 pub enum Got {
-    /// The bytes of the file.
-    Bytes(Vec<u8>),
+    /// The bytes of the piece.
+    Bytes(Items<u8>),
     /// No file is there.
     Absent,
     /// The device failed.

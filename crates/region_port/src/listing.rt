@@ -1,59 +1,88 @@
-ghost use Rattle.std.specs.Prelude.{◌≡◌, ◌++◌, ℕ, List, true, Some, if◌then◌else◌, IfOk, OnOk};
+ghost use Rattle.std.specs.Prelude.{◌≡◌, ◌++◌, ℕ, List, true, false, None, Some, if◌then◌else◌, IfOk, OnOk};
 ghost use Rattle.std.specs.Option.{option_or};
 ghost use Rattle.std.specs.BTreeMap.{get, IsOrdered};
 ghost use Rattle.mat_path.specs.Names.{is_rel, path_cmp, same_names};
-ghost use Rattle.mat_tree.specs.Parts.{declared_by};
+ghost use Rattle.mat_tree.specs.Parts.{Node, below, declared_by};
 ghost use Rattle.mat_tree.specs.Trees.{ascends, what_at};
-ghost use Rattle.region_port.specs.Entries.{node_kept, node_of};
-ghost use Rattle.region_port.specs.Listing.{flats_of, shown};
+ghost use Rattle.region_port.specs.Entries.{content_of, node_kept, node_of};
+ghost use Rattle.region_port.specs.Listing.{Lists, flats_of, form_of, list_failed, seen_of, shown};
 ghost use Rattle.region_port.specs.Lists.{all_of};
 
 use crate::entry::{DiskNode, Entry};
+use crate::listed::{Form, Listed, Seen};
 use crate::segments::Segments;
 use mat_digest::Digest;
-use mat_path::{Memory, Name, Path, Rel};
+use mat_path::{Items, Memory, Name, Path, Rel};
 use mat_tree::{Flat, What};
 use std::alloc::Global;
 use std::collections::BTreeMap;
 
-/// What a tree has where a disk has this node.
-fn what_of(node: &DiskNode) -> Result<What, Memory>
-    ensures ok { IfOk result (λ what. what ≡ declared_by (node_kept node.now)) }
-{
-    match node {
-        DiskNode::Dir => Ok(What::Dir),
-        DiskNode::File { bytes, exec } => Ok(What::File {
-            digest: Digest::of(bytes.as_slice()),
-            exec: *exec,
-        }),
-        DiskNode::Link(target) => Ok(What::Link(target.copy()?)),
+/// How many nodes a region lists at most.
+const MOST_NODES: usize = 10_000;
+
+/// What a node is shown as.
+pub trait View: Drop {
+    ghost show: { Node → Self };
+
+    /// What this node is shown as.
+    fn of(node: &DiskNode) -> Result<Self, Memory>
+        ensures { IfOk result (λ view. view ≡ show (node_kept node.now)) };
+}
+
+impl View for What {
+    ghost show = { declared_by };
+
+    fn of(node: &DiskNode) -> Result<What, Memory> {
+        match node {
+            DiskNode::Dir => Ok(What::Dir),
+            DiskNode::File { bytes, exec } => Ok(What::File {
+                digest: Digest::of(bytes.as_slice()),
+                exec: *exec,
+            }),
+            DiskNode::Link(target) => Ok(What::Link(target.copy()?)),
+        }
+    }
+}
+
+impl View for Form {
+    ghost show = { form_of };
+
+    fn of(node: &DiskNode) -> Result<Form, Memory> {
+        match node {
+            DiskNode::Dir => Ok(Form::Dir),
+            DiskNode::File { bytes, exec } => Ok(Form::File {
+                exec: *exec,
+                size: bytes.as_slice().len() as u64,
+            }),
+            DiskNode::Link(target) => Ok(Form::Link(target.copy()?)),
+        }
     }
 }
 
 /// Adds a node at these names; it takes the place of an earlier one.
-fn add_node(
+fn add_node<V: View>(
     alloc: Global,
     names: &[Name],
     node: &DiskNode,
-    nodes: &mut BTreeMap<Rel, What>,
+    nodes: &mut BTreeMap<Rel, V>,
 ) -> Result<(), Memory>
     requires { is_rel names.now ≡ true }
-    ensures ok { OnOk result ((rel : List (List ℕ)) → get path_cmp nodes.new rel ≡ (if same_names names.now rel then Some (declared_by (node_kept node.now)) else get path_cmp nodes.old rel)) }
+    ensures ok { OnOk result ((rel : List (List ℕ)) → get path_cmp nodes.new rel ≡ (if same_names names.now rel then Some (V.show (node_kept node.now)) else get path_cmp nodes.old rel)) }
 {
     let rel = Rel::of(alloc, names)?;
-    let what = what_of(node)?;
-    nodes.insert(rel, what)?;
+    let view = V::of(node)?;
+    nodes.insert(rel, view)?;
     Ok(())
 }
 
 /// Adds an entry where it is at or below the path.
-fn add_entry(
+fn add_entry<V: View>(
     alloc: Global,
     path: &Path,
     entry: &Entry,
-    nodes: &mut BTreeMap<Rel, What>,
+    nodes: &mut BTreeMap<Rel, V>,
 ) -> Result<(), Memory>
-    ensures ok { OnOk result ((rel : List (List ℕ)) → get path_cmp nodes.new rel ≡ (if same_names entry.now.path (path.now ++ rel) then Some (declared_by (node_of entry.now)) else get path_cmp nodes.old rel)) }
+    ensures ok { OnOk result ((rel : List (List ℕ)) → get path_cmp nodes.new rel ≡ (if same_names entry.now.path (path.now ++ rel) then Some (V.show (node_of entry.now)) else get path_cmp nodes.old rel)) }
 {
     let _whole = entry.path.names();
     match path.below(&entry.path) {
@@ -63,13 +92,13 @@ fn add_entry(
 }
 
 /// Adds the entries of a segment in their order.
-fn add_segment(
+fn add_segment<V: View>(
     alloc: Global,
     path: &Path,
     segment: &[Entry],
-    nodes: &mut BTreeMap<Rel, What>,
+    nodes: &mut BTreeMap<Rel, V>,
 ) -> Result<(), Memory>
-    ensures ok { OnOk result ((rel : List (List ℕ)) → get path_cmp nodes.new rel ≡ option_or (shown path.now segment.now rel) (get path_cmp nodes.old rel)) }
+    ensures ok { OnOk result ((rel : List (List ℕ)) → get path_cmp nodes.new rel ≡ option_or (shown V.show path.now segment.now rel) (get path_cmp nodes.old rel)) }
 {
     for entry in segment {
         add_entry(alloc, path, entry, nodes)?;
@@ -78,12 +107,12 @@ fn add_segment(
 }
 
 /// The nodes at and below the path, by their rels.
-fn nodes_below(
+fn nodes_below<V: View>(
     alloc: Global,
     path: &Path,
     entries: &Segments<Entry>,
-) -> Result<BTreeMap<Rel, What>, Memory>
-    ensures ok { IfOk result (λ nodes. (rel : List (List ℕ)) → get path_cmp nodes rel ≡ shown path.now (all_of entries.now.segments.items) rel) }
+) -> Result<BTreeMap<Rel, V>, Memory>
+    ensures ok { IfOk result (λ nodes. (rel : List (List ℕ)) → get path_cmp nodes rel ≡ shown V.show path.now (all_of entries.now.segments.items) rel) }
 {
     let mut nodes = BTreeMap::new(alloc);
     for segment in entries.segments.iter() {
@@ -112,8 +141,45 @@ pub(crate) fn listed(
     entries: &Segments<Entry>,
 ) -> Result<Vec<Flat>, Memory>
     ensures ascending { IfOk result (λ nodes. ascends nodes.items ≡ true) }
-    ensures ok { IfOk result (λ nodes. (rel : List (List ℕ)) → shown path.now (all_of entries.now.segments.items) rel ≡ what_at nodes.items rel) }
+    ensures ok { IfOk result (λ nodes. (rel : List (List ℕ)) → shown declared_by path.now (all_of entries.now.segments.items) rel ≡ what_at nodes.items rel) }
 {
     let nodes = nodes_below(alloc, path, entries)?;
     flat_of(alloc, nodes)
+}
+
+/// The forms of a map, in order of rel.
+fn seen_in(alloc: Global, map: BTreeMap<Rel, Form>) -> Result<Vec<Seen>, Memory>
+    ensures ok { IfOk result (λ nodes. nodes.items ≡ seen_of map.entries) }
+{
+    let mut nodes = Vec::new(alloc);
+    for (rel, what) in map {
+        nodes.push(Seen { rel, what })?;
+    }
+    Ok(nodes)
+}
+
+/// The forms of some entries at and below the path, by their rels.
+fn forms_below(alloc: Global, path: &Path, entries: &[Entry]) -> Result<BTreeMap<Rel, Form>, Memory>
+    ensures ok { IfOk result (λ forms. (rel : List (List ℕ)) → get path_cmp forms rel ≡ option_or (shown form_of path.now entries.now rel) None) }
+{
+    let mut forms = BTreeMap::new(alloc);
+    add_segment(alloc, path, entries, &mut forms)?;
+    Ok(forms)
+}
+
+/// What some entries have at and below the path.
+pub(crate) fn seen(alloc: Global, path: &Path, entries: &[Entry]) -> Listed
+    ensures listed { Lists (Some (below path.now (content_of entries.now))) result }
+    ensures answer { list_failed result ≡ false }
+{
+    let Ok(forms) = forms_below(alloc, path, entries) else {
+        return Listed::NoMemory;
+    };
+    if forms.len() > MOST_NODES {
+        return Listed::Many;
+    }
+    match seen_in(alloc, forms) {
+        Ok(nodes) => Listed::Nodes(Items::of(nodes)),
+        Err(_) => Listed::NoMemory,
+    }
 }

@@ -1,24 +1,29 @@
 ghost use Rattle.mat_path.specs.Covering.{covering, is_other_path};
 ghost use Rattle.mat_tree.specs.Trees.{ascends};
-ghost use Rattle.std.specs.Prelude.{◌≡◌, IfOk, ◌+◌, ◌≤◌, ◌<◌, ◌∷◌, ◌++◌, [], ℕ, List, true, false, not, nat_eq, None, Some};
+ghost use Rattle.std.specs.Prelude.{◌≡◌, IfOk, is_ok, if◌then◌else◌, ◌+◌, ◌≤◌, ◌<◌, ◌∷◌, ◌++◌, [], ℕ, List, true, false, not, nat_eq, None, Some};
 ghost use Rattle.std.specs.List.{filter, list_any};
 ghost use Rattle.std.specs.Vec.{vec_len, vec_capacity};
 ghost use Rattle.std.specs.VecDeque.{deque_len, deque_capacity};
-ghost use Rattle.mat_io.specs.Causes.{HasCause};
+ghost use Rattle.mat_io.specs.Causes.{HasCause, faults_after};
 ghost use Rattle.mat_path.specs.Names.{is_prefix, overlap, same_names};
-ghost use Rattle.mat_tree.specs.Parts.{bare, below, HasTree};
-ghost use Rattle.region_port.specs.Calls.{nowhere, paths_of_both, with_inner};
-ghost use Rattle.region_port.specs.Entries.{content_of, joined_counts, no_counts, paths_of, rough_paths};
+ghost use Rattle.mat_tree.specs.Parts.{bare, below, without, HasTree};
+ghost use Rattle.region_port.specs.Calls.{nowhere, paths_below, paths_of_both, paths_outside, with_inner};
+ghost use Rattle.region_port.specs.Crashes.{Crashes};
+ghost use Rattle.region_port.specs.Entries.{content_of, entered, joined_counts, no_counts, paths_of, rough_paths};
 ghost use Rattle.region_port.specs.Lists.{all_of};
+ghost use Rattle.region_port.specs.Strays.{Finds, strays_failed};
+ghost use Rattle.region_port.specs.Watches.{after_call, joined_watch, uncalled};
 
 use crate::counts::Counts;
+use crate::crash::{Rest, crash_all};
 use crate::entry::Entry;
 use crate::listing::listed;
 use crate::mem_region::MemRegion;
 use crate::port::Disk;
 use crate::segments::Segments;
+use crate::strays::{Strays, strays_of};
 use mat_io::Arm;
-use mat_path::{Memory, Path};
+use mat_path::{Items, Memory, Path};
 use mat_tree::Flat;
 use std::alloc::Global;
 
@@ -68,13 +73,26 @@ impl MemDisk {
     {
         listed(*self.loans.allocator(), path, &self.nodes)
     }
+
+    /// Makes of all that is at or below a rough path what the rest says; everything else stays, and nothing is rough
+    /// afterwards. This is no device call. Takes no memory.
+    pub fn crash(&mut self, rest: Rest)
+        requires { disk_loans self.old ≡ [] }
+        ensures content { Crashes rest (disk_rough self.old) (disk_content self.old) (disk_content self.new) }
+        ensures rough { disk_rough self.new ≡ nowhere }
+        ensures lent { disk_loans self.new ≡ disk_loans self.old }
+        ensures counts { disk_counts self.new ≡ disk_counts self.old }
+    {
+        crash_all(&mut self.nodes.segments, &self.rough, rest);
+        self.rough.clear();
+    }
 }
 
 impl Disk for MemDisk {
     type R = MemRegion;
 
-    ghost use Rattle.region_port.specs.Disks.{disk_content, disk_counts, disk_faults, disk_loans, disk_rough};
-    ghost use Rattle.region_port.specs.Memory.{part_of, region_counts, region_faults, region_place, rough_of};
+    ghost use Rattle.region_port.specs.Disks.{disk_content, disk_counts, disk_faults, disk_loans, disk_rough, disk_watch, is_disk_armed};
+    ghost use Rattle.region_port.specs.Memory.{part_of, region_counts, region_faults, region_place, region_watch, rough_of};
 
     ghost content = { λ disk. Some (disk_content disk) };
 
@@ -84,7 +102,24 @@ impl Disk for MemDisk {
 
     ghost fault_count = { disk_faults };
 
-    fn take(&mut self, path: &Path) -> Result<MemRegion, Memory> {
+    ghost watch = { λ disk. Some (disk_watch disk) };
+
+    fn take(&mut self, path: &Path) -> Result<MemRegion, Memory>
+        requires { list_any (overlap path.now) (disk_loans self.old) ≡ false }
+        ensures place { IfOk result (λ region. region_place region ≡ path.now) }
+        ensures part { IfOk result (λ region. Some (part_of region) ≡ Some (below path.now (disk_content self.old))) }
+        ensures region_rough { IfOk result (λ region. rough_of region ≡ paths_below path.now (disk_rough self.old)) }
+        ensures count { IfOk result (λ region. region_faults region ≡ 0) }
+        ensures region_watch { IfOk result (λ region. region_watch region ≡ uncalled) }
+        ensures region_counts { IfOk result (λ region. region_counts region ≡ no_counts) }
+        ensures out { IfOk result (λ region. list_any (same_names (region_place region)) (disk_loans self.new) ≡ true) }
+        ensures content { Some (disk_content self.new) ≡ (if is_ok result then Some (without path.now (disk_content self.old)) else Some (disk_content self.old)) }
+        ensures lent { disk_loans self.new ≡ (if is_ok result then disk_loans self.old ++ path.now ∷ [] else disk_loans self.old) }
+        ensures rough { disk_rough self.new ≡ (if is_ok result then paths_outside path.now (disk_rough self.old) else disk_rough self.old) }
+        ensures same { disk_faults self.new ≡ disk_faults self.old }
+        ensures watch { disk_watch self.new ≡ disk_watch self.old }
+        ensures counts { disk_counts self.new ≡ disk_counts self.old }
+    {
         let place = path.copy()?;
         let loan = path.copy()?;
         self.loans.reserve(1)?;
@@ -108,7 +143,9 @@ impl Disk for MemDisk {
         ensures content { Some (disk_content self.new) ≡ with_inner (region_place region) (Some (part_of region)) (Some (disk_content self.old)) }
         ensures lent { disk_loans self.new ≡ filter (is_other_path (region_place region)) (disk_loans self.old) }
         ensures rough { disk_rough self.new ≡ paths_of_both (disk_rough self.old) (rough_of region) }
+        ensures within { paths_below (region_place region) (rough_of region) ≡ rough_of region }
         ensures cause { HasCause (disk_faults self.old) (disk_faults self.new) (not (nat_eq (region_faults region) 0)) }
+        ensures watch { Some (disk_watch self.new) ≡ joined_watch (Some (region_watch region)) (Some (disk_watch self.old)) }
         ensures counts { disk_counts self.new ≡ joined_counts (disk_counts self.old) (region_counts region) }
     {
         let MemRegion {
@@ -122,6 +159,28 @@ impl Disk for MemDisk {
         self.counts.absorb(&counts);
         self.nodes.give_back(nodes);
         self.rough.give_back(rough_given(place, rough, whole));
+    }
+
+    fn strays(&mut self, known: &[Path]) -> Strays
+        requires none_lent { disk_loans self.old ≡ [] }
+        requires apart { (path : List (List ℕ)) → covering path known.now ≤ 1 }
+        ensures content { disk_content self.new ≡ disk_content self.old }
+        ensures lent { disk_loans self.new ≡ disk_loans self.old }
+        ensures rough { disk_rough self.new ≡ disk_rough self.old }
+        ensures strays { Finds known.now (Some (disk_content self.old)) result }
+        ensures cause { HasCause (disk_faults self.old) (disk_faults self.new) (strays_failed result) }
+        ensures watch { disk_watch self.new ≡ after_call (disk_watch self.old) }
+        ensures fails { strays_failed result ≡ is_disk_armed self.old }
+        ensures counts { disk_counts self.new ≡ entered (disk_counts self.old) }
+        ensures faults { disk_faults self.new ≡ faults_after (strays_failed result) (disk_faults self.old) }
+    {
+        if !self.counts.enter() {
+            return Strays::Failed;
+        }
+        match strays_of(*self.loans.allocator(), known, &self.nodes) {
+            Ok(found) => Strays::Found(Items::of(found)),
+            Err(_) => Strays::NoMemory,
+        }
     }
 
     fn faults(&self) -> u64 {

@@ -1,24 +1,30 @@
-ghost use Rattle.std.specs.Prelude.{◌≡◌, ◌<◌, ◌++◌, true, false, Some, IfOk, if◌then◌else◌};
-ghost use Rattle.std.specs.List.{list_all};
-ghost use Rattle.std.specs.Option.{option_map};
+ghost use Rattle.std.specs.Prelude.{◌≡◌, ◌<◌, ◌++◌, ◌+◌, true, false, None, Some, IfOk, length, drop};
+ghost use Rattle.std.specs.List.{list_all, slice_get};
+ghost use Rattle.std.specs.Option.{ForSome};
 ghost use Rattle.std.specs.Vec.{vec_len, vec_capacity};
 ghost use Rattle.mat_io.specs.Answers.{did_failed};
-ghost use Rattle.mat_io.specs.Causes.{HasCause};
-ghost use Rattle.mat_path.specs.Names.{is_path, is_prefix, same_names};
+ghost use Rattle.mat_io.specs.Causes.{HasCause, faults_after};
+ghost use Rattle.mat_path.specs.Names.{is_path, is_prefix};
 ghost use Rattle.mat_tree.specs.Parts.{file, folder, link};
-ghost use Rattle.region_port.specs.Calls.{Wipes, Puts, Roughens, Syncs, IfNotDone, wants_memory};
-ghost use Rattle.region_port.specs.Reads.{IsCopy, Reads, file_bytes, got_failed};
-ghost use Rattle.region_port.specs.Entries.{content_of, path_of_entry, is_within, entered, node_kept, node_of};
+ghost use Rattle.region_port.specs.Calls.{Appends, IfNotDone, Puts, Roughens, Syncs, Wipes, is_file, wants_memory};
+ghost use Rattle.region_port.specs.Listing.{Lists, list_failed};
+ghost use Rattle.region_port.specs.Reads.{IsWithin, Reads, got_failed, has_bytes};
+ghost use Rattle.region_port.specs.Entries.{entered, is_entry_at, is_within, latest, node_kept, path_of_entry};
+ghost use Rattle.region_port.specs.Watches.{after_call};
 
 use crate::counts::Counts;
 use crate::entry::{DiskNode, Entry};
 use crate::got::Got;
+use crate::listed::Listed;
+use crate::listing::seen;
+use crate::pieces::{copied, file_at, grown, newest};
 use crate::port::Region;
 use mat_io::{Arm, Did};
 use mat_path::{Items, Memory, Path, Rel, Target};
 use std::alloc::Global;
 
-/// A loan of a part of a disk in memory.
+/// A loan of a part of a disk in memory. It keeps all nodes in one list: a read looks for its file from the end of the list
+/// on, and listing the part sorts them.
 #[derive(Debug, Drop)]
 pub struct MemRegion {
     pub(crate) place: Path,
@@ -34,7 +40,7 @@ pub struct MemRegion {
 }
 
 impl Region for MemRegion {
-    ghost use Rattle.region_port.specs.Memory.{is_region_armed, part_of, region_counts, region_faults, region_place, rough_of};
+    ghost use Rattle.region_port.specs.Memory.{is_region_armed, part_of, region_counts, region_faults, region_place, region_watch, rough_of};
 
     ghost place = { region_place };
 
@@ -43,6 +49,8 @@ impl Region for MemRegion {
     ghost rough = { rough_of };
 
     ghost fault_count = { region_faults };
+
+    ghost watch = { λ region. Some (region_watch region) };
 
     fn path(&self) -> &Path {
         &self.place
@@ -53,8 +61,10 @@ impl Region for MemRegion {
         ensures part { Wipes result (Some (part_of self.old)) (Some (part_of self.new)) }
         ensures rough { Roughens (region_place self.old) result (rough_of self.old) (rough_of self.new) }
         ensures cause { HasCause (region_faults self.old) (region_faults self.new) (did_failed result) }
+        ensures watch { region_watch self.new ≡ after_call (region_watch self.old) }
+        ensures fails { did_failed result ≡ is_region_armed self.old }
         ensures counts { region_counts self.new ≡ entered (region_counts self.old) }
-        ensures armed { did_failed result ≡ is_region_armed self.old }
+        ensures faults { region_faults self.new ≡ faults_after (did_failed result) (region_faults self.old) }
         ensures room { wants_memory result ≡ false }
         ensures same { IfNotDone result ((part_of self.new ≡ part_of self.old) × (rough_of self.new ≡ rough_of self.old)) }
     {
@@ -72,8 +82,10 @@ impl Region for MemRegion {
         ensures part { Puts rel.now (file bytes.now exec) result (Some (part_of self.old)) (Some (part_of self.new)) }
         ensures rough { Roughens (region_place self.old) result (rough_of self.old) (rough_of self.new) }
         ensures cause { HasCause (region_faults self.old) (region_faults self.new) (did_failed result) }
+        ensures watch { region_watch self.new ≡ after_call (region_watch self.old) }
+        ensures fails { did_failed result ≡ is_region_armed self.old }
         ensures counts { region_counts self.new ≡ entered (region_counts self.old) }
-        ensures armed { did_failed result ≡ is_region_armed self.old }
+        ensures faults { region_faults self.new ≡ faults_after (did_failed result) (region_faults self.old) }
         ensures same { IfNotDone result ((part_of self.new ≡ part_of self.old) × (rough_of self.new ≡ rough_of self.old)) }
     {
         if !self.counts.enter() {
@@ -91,8 +103,10 @@ impl Region for MemRegion {
         ensures part { Puts rel.now folder result (Some (part_of self.old)) (Some (part_of self.new)) }
         ensures rough { Roughens (region_place self.old) result (rough_of self.old) (rough_of self.new) }
         ensures cause { HasCause (region_faults self.old) (region_faults self.new) (did_failed result) }
+        ensures watch { region_watch self.new ≡ after_call (region_watch self.old) }
+        ensures fails { did_failed result ≡ is_region_armed self.old }
         ensures counts { region_counts self.new ≡ entered (region_counts self.old) }
-        ensures armed { did_failed result ≡ is_region_armed self.old }
+        ensures faults { region_faults self.new ≡ faults_after (did_failed result) (region_faults self.old) }
         ensures same { IfNotDone result ((part_of self.new ≡ part_of self.old) × (rough_of self.new ≡ rough_of self.old)) }
     {
         if !self.counts.enter() {
@@ -107,8 +121,10 @@ impl Region for MemRegion {
         ensures part { Puts rel.now (link target.now) result (Some (part_of self.old)) (Some (part_of self.new)) }
         ensures rough { Roughens (region_place self.old) result (rough_of self.old) (rough_of self.new) }
         ensures cause { HasCause (region_faults self.old) (region_faults self.new) (did_failed result) }
+        ensures watch { region_watch self.new ≡ after_call (region_watch self.old) }
+        ensures fails { did_failed result ≡ is_region_armed self.old }
         ensures counts { region_counts self.new ≡ entered (region_counts self.old) }
-        ensures armed { did_failed result ≡ is_region_armed self.old }
+        ensures faults { region_faults self.new ≡ faults_after (did_failed result) (region_faults self.old) }
         ensures same { IfNotDone result ((part_of self.new ≡ part_of self.old) × (rough_of self.new ≡ rough_of self.old)) }
     {
         if !self.counts.enter() {
@@ -120,20 +136,64 @@ impl Region for MemRegion {
         }
     }
 
-    fn read_file(&mut self, rel: &Rel) -> Got
-        requires { is_path (region_place self.old ++ rel.now) ≡ true }
+    fn append(&mut self, rel: &Rel, bytes: &[u8]) -> Did
+        requires { ForSome (Some (part_of self.old)) (λ part. is_file (part rel.now) ≡ true) }
+        ensures place { region_place self.new ≡ region_place self.old }
+        ensures part { Appends rel.now bytes.now result (Some (part_of self.old)) (Some (part_of self.new)) }
+        ensures rough { Roughens (region_place self.old) result (rough_of self.old) (rough_of self.new) }
+        ensures cause { HasCause (region_faults self.old) (region_faults self.new) (did_failed result) }
+        ensures watch { region_watch self.new ≡ after_call (region_watch self.old) }
+        ensures fails { did_failed result ≡ is_region_armed self.old }
+        ensures counts { region_counts self.new ≡ entered (region_counts self.old) }
+        ensures faults { region_faults self.new ≡ faults_after (did_failed result) (region_faults self.old) }
+        ensures same { IfNotDone result ((part_of self.new ≡ part_of self.old) × (rough_of self.new ≡ rough_of self.old)) }
+    {
+        if !self.counts.enter() {
+            return Did::Failed;
+        }
+        match newest(self.nodes.as_slice(), &self.place, rel) {
+            Some(at) => self.append_at(at, rel, bytes),
+            None => Did::NoMemory,
+        }
+    }
+
+    fn read_piece(&mut self, rel: &Rel, at: u64, most: u32) -> Got
         ensures place { region_place self.new ≡ region_place self.old }
         ensures part { Some (part_of self.new) ≡ Some (part_of self.old) }
+        ensures got { Reads rel.now at most (Some (part_of self.old)) result }
+        ensures within { IsWithin most result }
+        ensures path { has_bytes result ≡ true → is_path (region_place self.old ++ rel.now) ≡ true }
         ensures rough { rough_of self.new ≡ rough_of self.old }
-        ensures got { Reads rel.now (Some (part_of self.old)) result }
         ensures cause { HasCause (region_faults self.old) (region_faults self.new) (got_failed result) }
+        ensures watch { region_watch self.new ≡ after_call (region_watch self.old) }
+        ensures fails { got_failed result ≡ is_region_armed self.old }
         ensures counts { region_counts self.new ≡ entered (region_counts self.old) }
-        ensures armed { got_failed result ≡ is_region_armed self.old }
+        ensures faults { region_faults self.new ≡ faults_after (got_failed result) (region_faults self.old) }
     {
         if !self.counts.enter() {
             return Got::Failed;
         }
-        self.read(rel)
+        match file_at(self.nodes.as_slice(), &self.place, rel) {
+            Some(bytes) => copied(*self.nodes.allocator(), bytes, at, most),
+            None => Got::Absent,
+        }
+    }
+
+    fn list(&mut self) -> Listed
+        ensures place { region_place self.new ≡ region_place self.old }
+        ensures part { Some (part_of self.new) ≡ Some (part_of self.old) }
+        ensures listed { Lists (Some (part_of self.old)) result }
+        ensures rough { rough_of self.new ≡ rough_of self.old }
+        ensures cause { HasCause (region_faults self.old) (region_faults self.new) (list_failed result) }
+        ensures watch { region_watch self.new ≡ after_call (region_watch self.old) }
+        ensures fails { list_failed result ≡ is_region_armed self.old }
+        ensures counts { region_counts self.new ≡ entered (region_counts self.old) }
+        ensures faults { region_faults self.new ≡ faults_after (list_failed result) (region_faults self.old) }
+    {
+        if !self.counts.enter() {
+            return Listed::Failed;
+        }
+        seen(*self.nodes.allocator(), &self.place, self.nodes.as_slice())
     }
 
     fn sync(&mut self) -> Did
@@ -141,8 +201,10 @@ impl Region for MemRegion {
         ensures part { part_of self.new ≡ part_of self.old }
         ensures rough { Syncs result (rough_of self.old) (rough_of self.new) }
         ensures cause { HasCause (region_faults self.old) (region_faults self.new) (did_failed result) }
+        ensures watch { region_watch self.new ≡ after_call (region_watch self.old) }
+        ensures fails { did_failed result ≡ is_region_armed self.old }
         ensures counts { region_counts self.new ≡ entered (region_counts self.old) }
-        ensures armed { did_failed result ≡ is_region_armed self.old }
+        ensures faults { region_faults self.new ≡ faults_after (did_failed result) (region_faults self.old) }
         ensures room { wants_memory result ≡ false }
     {
         if !self.counts.enter() {
@@ -182,17 +244,29 @@ impl MemRegion {
         Did::Done
     }
 
-    /// What is read at the rel.
-    fn read(&self, rel: &Rel) -> Got
-        ensures got { Reads rel.now (Some (part_of self.now)) result }
-        ensures answer { got_failed result ≡ false }
+    /// Adds bytes at the end of the file of the last entry at the rel, which then is the last entry of all.
+    fn append_at(&mut self, at: usize, rel: &Rel, bytes: &[u8]) -> Did
+        requires within { at < length self.old.nodes.items }
+        requires found { latest (is_entry_at (region_place self.old ++ rel.now)) self.old.nodes.items ≡ slice_get self.old.nodes.items at }
+        requires last { latest (is_entry_at (region_place self.old ++ rel.now)) (drop (at + 1) self.old.nodes.items) ≡ None }
+        ensures place { region_place self.new ≡ region_place self.old }
+        ensures part { Appends rel.now bytes.now result (Some (part_of self.old)) (Some (part_of self.new)) }
+        ensures rough { Roughens (region_place self.old) result (rough_of self.old) (rough_of self.new) }
+        ensures counts { region_counts self.new ≡ region_counts self.old }
+        ensures answer { did_failed result ≡ false }
+        ensures same { IfNotDone result ((part_of self.new ≡ part_of self.old) × (rough_of self.new ≡ rough_of self.old)) }
     {
-        let Ok(path) = self.place.join(rel) else {
-            return Got::NoMemory;
-        };
-        match bytes_at(self.nodes.as_slice(), &path) {
-            Some(bytes) => copied(*self.nodes.allocator(), bytes),
-            None => Got::Absent,
+        let Entry { path, node } = self.nodes.remove(at);
+        match grown(node, bytes) {
+            Ok(node) => {
+                self.nodes.push_reserved(Entry { path, node });
+                self.whole = true;
+                Did::Done
+            }
+            Err(node) => {
+                self.nodes.push_reserved(Entry { path, node });
+                Did::NoMemory
+            }
         }
     }
 }
@@ -224,36 +298,4 @@ fn file_node(alloc: Global, bytes: &[u8], exec: bool) -> Result<DiskNode, Memory
 {
     let bytes = Items::of(Vec::from_slice(alloc, bytes)?);
     Ok(DiskNode::File { bytes, exec })
-}
-
-/// The bytes of the file at the path: the last entry there counts.
-fn bytes_at<'a>(entries: &'a [Entry], path: &Path) -> Option<&'a [u8]>
-    ensures { option_map (λ bytes. bytes.now) result ≡ file_bytes (content_of entries.entry.now path.now) }
-{
-    let mut found = None;
-    for entry in entries {
-        found = newer_bytes(entry, path, found);
-    }
-    found
-}
-
-/// The bytes of an entry at the path, or those that were found before it.
-fn newer_bytes<'a>(entry: &'a Entry, path: &Path, found: Option<&'a [u8]>) -> Option<&'a [u8]>
-    ensures { option_map (λ bytes. bytes.now) result ≡ (if same_names entry.entry.now.path path.now then file_bytes (Some (node_of entry.entry.now)) else option_map (λ bytes. bytes.now) found.entry) }
-{
-    if entry.path == *path {
-        return entry.node.bytes();
-    }
-    found
-}
-
-/// The answer with these bytes.
-fn copied(alloc: Global, bytes: &[u8]) -> Got
-    ensures bytes { IsCopy bytes.now result }
-    ensures answer { got_failed result ≡ false }
-{
-    match Vec::from_slice(alloc, bytes) {
-        Ok(bytes) => Got::Bytes(bytes),
-        Err(_) => Got::NoMemory,
-    }
 }

@@ -158,6 +158,15 @@ impl<T: Placed> Segments<T> {
         within
     }
 
+    /// Drops all items, and keeps the room for segments.
+    pub(crate) fn clear(&mut self)
+        ensures items { all_of self.new.segments.items ≡ [] }
+        ensures len { deque_len self.new.segments ≡ 0 }
+        ensures capacity { deque_capacity self.new.segments ≡ deque_capacity self.old.segments }
+    {
+        self.segments.clear();
+    }
+
     /// Adds a segment behind the others.
     pub(crate) fn give_back(&mut self, segment: Vec<T>)
         requires { deque_len self.old.segments < deque_capacity self.old.segments }

@@ -1,11 +1,15 @@
-ghost use Rattle.std.specs.Prelude.{◌≡◌};
-ghost use Rattle.std.specs.Option.{ForSome};
+ghost use Rattle.std.specs.Prelude.{◌≡◌, ◌++◌, true};
+ghost use Rattle.std.specs.Option.{ForSome, option_map};
+ghost use Rattle.mat_path.specs.Names.{is_path};
 ghost use Rattle.mat_tree.specs.Parts.{HasTree, bare};
 ghost use Rattle.region_port.specs.Calls.{nowhere};
+ghost use Rattle.region_port.specs.Reads.{IsWithin, Reads, got_failed, has_bytes};
+ghost use Rattle.region_port.specs.Watches.{FailsSo, after_call};
 
+use crate::got::Got;
 use crate::port::Region;
 use mat_io::Did;
-use mat_path::Path;
+use mat_path::{Path, Rel};
 use mat_tree::Tree;
 
 /// A part with any content, which may be rough.
@@ -29,6 +33,13 @@ pub struct Bare<R: Region> {
     region: R,
     ghost empty: { ForSome (R.part region) (λ part. part ≡ bare) },
     ghost settled: { R.rough region ≡ nowhere },
+}
+
+/// A part that is only read, with the tree that it was lent for.
+#[derive(Drop)]
+pub struct ReadLoan<R: Region> {
+    region: R,
+    tree: Tree,
 }
 
 /// A part in any of its states.
@@ -91,6 +102,8 @@ impl<R: Region> Rough<R> {
         ensures part { R.part (region_in result) ≡ R.part (rough_region self) }
         ensures settles { Settles tree (R.rough (rough_region self)) result }
         ensures cause { HasCause (R.fault_count (rough_region self)) (R.fault_count (region_in result)) (sync_failed result) }
+        ensures watch { R.watch (region_in result) ≡ option_map after_call (R.watch (rough_region self)) }
+        ensures fails { FailsSo (R.watch (rough_region self)) (sync_failed result) }
     {
         let Rough { mut region } = self;
         match region.sync() {
@@ -107,6 +120,8 @@ impl<R: Region> Rough<R> {
         ensures part { R.part (region_in result) ≡ R.part (rough_region self) }
         ensures empties { Empties (R.rough (rough_region self)) result }
         ensures cause { HasCause (R.fault_count (rough_region self)) (R.fault_count (region_in result)) (sync_failed result) }
+        ensures watch { R.watch (region_in result) ≡ option_map after_call (R.watch (rough_region self)) }
+        ensures fails { FailsSo (R.watch (rough_region self)) (sync_failed result) }
     {
         let Rough { mut region } = self;
         match region.sync() {
@@ -164,6 +179,57 @@ impl<R: Region> Bare<R> {
         ensures settled { R.rough result ≡ nowhere }
     {
         let Bare { region } = self;
+        region
+    }
+}
+
+impl<R: Region> ReadLoan<R> {
+    ghost use Rattle.mat_io.specs.Causes.{HasCause};
+    ghost use Rattle.region_port.specs.States.{loan_region, loan_tree};
+
+    /// The part of this region, lent for a tree that it may have or not. Takes no memory.
+    pub fn of(region: R, tree: Tree) -> ReadLoan<R>
+        ensures region { loan_region result ≡ region }
+        ensures tree { loan_tree result ≡ tree }
+    {
+        ReadLoan { region, tree }
+    }
+
+    /// The tree that the part was lent for. Takes no memory.
+    pub fn tree(&self) -> &Tree
+        ensures { result.now ≡ loan_tree self.now }
+    {
+        &self.tree
+    }
+
+    /// Where the part stands. Takes no memory.
+    pub fn path(&self) -> &Path
+        ensures { result.now ≡ R.place (loan_region self.now) }
+    {
+        self.region.path()
+    }
+
+    /// Reads a piece of the file at the rel, as the region does.
+    pub fn read_piece(&mut self, rel: &Rel, at: u64, most: u32) -> Got
+        ensures tree { loan_tree self.new ≡ loan_tree self.old }
+        ensures place { R.place (loan_region self.new) ≡ R.place (loan_region self.old) }
+        ensures part { R.part (loan_region self.new) ≡ R.part (loan_region self.old) }
+        ensures rough { R.rough (loan_region self.new) ≡ R.rough (loan_region self.old) }
+        ensures got { Reads rel.now at most (R.part (loan_region self.old)) result }
+        ensures within { IsWithin most result }
+        ensures path { has_bytes result ≡ true → is_path (R.place (loan_region self.old) ++ rel.now) ≡ true }
+        ensures cause { HasCause (R.fault_count (loan_region self.old)) (R.fault_count (loan_region self.new)) (got_failed result) }
+        ensures watch { R.watch (loan_region self.new) ≡ option_map after_call (R.watch (loan_region self.old)) }
+        ensures fails { FailsSo (R.watch (loan_region self.old)) (got_failed result) }
+    {
+        self.region.read_piece(rel, at, most)
+    }
+
+    /// The region, without the tree. Takes no memory.
+    pub fn into_region(self) -> R
+        ensures { result ≡ loan_region self }
+    {
+        let ReadLoan { region, tree: _ } = self;
         region
     }
 }

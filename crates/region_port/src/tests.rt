@@ -69,13 +69,7 @@ fn put_link<R: Region>(region: &mut R, rel: &Rel, target: &Target) -> Did
 fn read<R: Region>(region: &mut R, rel: &Rel) -> Got
     ensures { R.place region.new ≡ R.place region.old }
 {
-    match region.path().join(rel) {
-        Ok(path) => {
-            let _names = path.names();
-            region.read_file(rel)
-        }
-        Err(_) => Got::NoMemory,
-    }
+    region.read_piece(rel, 0, 1000)
 }
 
 /// Makes what was put last.

@@ -7,4 +7,4 @@ use Rattle.region_port.proofs.listing.add_segment.Given as goal
 
 -- the entries so far
 abbrev pub invariant-loop-entry : goal.invariant-loop-entry
-invariant-loop-entry l = (rel : List (List ℕ)) → get path_cmp l.nodes rel ≡ option_or (shown l.path (take l.entry-index l.segment) rel) (get path_cmp l.initial.nodes rel)
+invariant-loop-entry g l = (rel : List (List ℕ)) → get path_cmp l.nodes rel ≡ option_or (shown g.V.View.show l.path (take l.entry-index l.segment) rel) (get path_cmp l.initial.nodes rel)

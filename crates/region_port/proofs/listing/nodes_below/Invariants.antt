@@ -7,4 +7,4 @@ use Rattle.region_port.proofs.listing.nodes_below.Given as goal
 
 -- the segments so far
 abbrev pub invariant-loop-segment : goal.invariant-loop-segment
-invariant-loop-segment l = (rel : List (List ℕ)) → get path_cmp l.nodes rel ≡ shown l.path (all_of (map (λ s. s.now) l.yielded)) rel
+invariant-loop-segment g l = (rel : List (List ℕ)) → get path_cmp l.nodes rel ≡ shown g.V.View.show l.path (all_of (map (λ s. s.now) l.yielded)) rel

@@ -10,7 +10,7 @@ use Rattle.region_port.specs.Entries.{content_of, paths_of}
 use Rattle.region_port.specs.Lists.{all_of}
 use Rattle.region_port.proofs.Content.{content_of-replaced}
 use Rattle.region_port.proofs.Loans.{apart-given, free-given, free-lent}
-use Rattle.region_port.proofs.Marks.{paths_of-append}
+use Rattle.region_port.proofs.Marks.{paths_of-append, rough_paths-within}
 use Rattle.region_port.proofs.mem_disk.MemDiskDisk.give.Goals as goal
 
 pub invariant_of-self : goal.invariant_of-self
@@ -45,3 +45,6 @@ pub returns-clause-rough : goal.returns-clause-rough
 returns-clause-rough c =
     let all = all_of c.args.self.now.rough.segments.items in
     ap paths_of c.give_back-2.ensures.items ∙ paths_of-append all c.rough_given.result.items ∙ ap (paths_of_both (paths_of all)) c.rough_given.ensures
+
+pub returns-clause-within : goal.returns-clause-within
+returns-clause-within c = rough_paths-within c.args.region.whole c.args.region.place c.args.region.rough.items c.args.region.rough_within

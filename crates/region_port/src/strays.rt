@@ -1,0 +1,110 @@
+// How the strays of a disk in memory are found.
+ghost use Rattle.std.specs.Prelude.{◌≡◌, ◌&&◌, ◌||◌, ◌≤◌, ℕ, List, Some, IfOk, OnOk};
+ghost use Rattle.std.specs.BTreeSet.{contains};
+ghost use Rattle.std.specs.List.{list_any};
+ghost use Rattle.std.specs.Option.{is_some};
+ghost use Rattle.mat_path.specs.Covering.{covering};
+ghost use Rattle.mat_path.specs.Names.{is_prefix, overlap, path_cmp, same_names};
+ghost use Rattle.region_port.specs.Entries.{content_of};
+ghost use Rattle.region_port.specs.Lists.{all_of};
+ghost use Rattle.region_port.specs.Strays.{AreFound, Gathers, candidates, is_apart, is_below_last};
+
+use crate::entry::Entry;
+use crate::segments::Segments;
+use mat_path::{Items, Memory, Path};
+use std::alloc::Global;
+use std::collections::BTreeSet;
+
+/// What a search for strays answers.
+#[derive(Debug, Drop)]
+pub enum Strays {
+    /// These, in path order.
+    Found(Items<Path>),
+    /// The device failed.
+    Failed,
+    /// Want of memory.
+    NoMemory,
+}
+
+/// Whether a path overlaps one of some.
+fn overlaps_any(path: &Path, known: &[Path]) -> bool
+    ensures { result ≡ list_any (overlap path.now) known.now }
+{
+    known.iter().any(|one| path.overlaps(one))
+}
+
+/// Adds the path of an entry that overlaps no known path.
+fn add_candidate(known: &[Path], entry: &Entry, found: &mut BTreeSet<Path>) -> Result<(), Memory>
+    ensures { OnOk result ((path : List (List ℕ)) → contains path_cmp found.new path ≡ ((same_names entry.now.path path && is_apart known.now path) || contains path_cmp found.old path)) }
+{
+    if !overlaps_any(&entry.path, known) {
+        found.insert(entry.path.copy()?)?;
+    }
+    Ok(())
+}
+
+/// Adds those of the entries of a segment.
+fn add_candidates(
+    known: &[Path],
+    segment: &[Entry],
+    found: &mut BTreeSet<Path>,
+) -> Result<(), Memory>
+    ensures { OnOk result ((path : List (List ℕ)) → contains path_cmp found.new path ≡ (candidates known.now (content_of segment.now) path || contains path_cmp found.old path)) }
+{
+    for entry in segment {
+        add_candidate(known, entry, found)?;
+    }
+    Ok(())
+}
+
+/// The paths of the nodes that overlap no known path.
+fn candidates_in(
+    alloc: Global,
+    known: &[Path],
+    entries: &Segments<Entry>,
+) -> Result<BTreeSet<Path>, Memory>
+    ensures { IfOk result (λ found. (path : List (List ℕ)) → contains path_cmp found path ≡ candidates known.now (content_of (all_of entries.now.segments.items)) path) }
+{
+    let mut found = BTreeSet::new(alloc);
+    for segment in entries.segments.iter() {
+        add_candidates(known, segment.as_slice(), &mut found)?;
+    }
+    Ok(found)
+}
+
+/// Whether a path is at or below the last of some.
+fn is_below_last(found: &[Path], path: &Path) -> bool
+    ensures { result ≡ is_below_last found.now path.now }
+{
+    match found.last() {
+        Some(last) => last.is_prefix(path),
+        None => false,
+    }
+}
+
+/// Those of some paths that have no other one above them.
+fn topmost(alloc: Global, mut paths: BTreeSet<Path>) -> Result<Vec<Path>, Memory>
+    ensures { IfOk result (λ found. Gathers paths.keys found.items) }
+{
+    let _ordered = paths.len();
+    let mut found: Vec<Path> = Vec::new(alloc);
+    'paths: while let Some(path) = paths.pop_first() {
+        if !is_below_last(found.as_slice(), &path) {
+            found.push(path)?;
+        }
+    }
+    Ok(found)
+}
+
+/// The strays among the nodes of some entries.
+pub(crate) fn strays_of(
+    alloc: Global,
+    known: &[Path],
+    entries: &Segments<Entry>,
+) -> Result<Vec<Path>, Memory>
+    requires { (path : List (List ℕ)) → covering path known.now ≤ 1 }
+    ensures { IfOk result (λ found. AreFound known.now (Some (content_of (all_of entries.now.segments.items))) found.items) }
+{
+    let paths = candidates_in(alloc, known, entries)?;
+    topmost(alloc, paths)
+}
