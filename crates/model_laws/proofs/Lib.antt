@@ -34,3 +34,11 @@ pub mod BelowLemmas
 pub mod RoomLists
 pub mod RoomCases
 pub mod RoomLemmas
+pub mod Coverings
+pub mod WorkBase
+pub mod WorkClaims
+pub mod WorkEnds
+pub mod WorkMoves
+pub mod WorkBegins
+pub mod WorkDone
+pub mod WorkKept

@@ -3,3 +3,4 @@ pub mod RowRules
 pub mod FirstRules
 pub mod TicketRules
 pub mod RoomRules
+pub mod WorkRules

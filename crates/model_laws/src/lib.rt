@@ -7,6 +7,7 @@ mod laws;
 mod room_laws;
 mod row_laws;
 mod ticket_laws;
+mod work_laws;
 
 pub use book_laws::{
     asker_stays, finish_keeps_rules, front_waits_rightly, history_keeps_rules, idle_keeps_rules,
@@ -31,3 +32,4 @@ pub use ticket_laws::{
     made_row_answers_below, open_ticket_is_below_bare_path, overlapping_rows_answer_below,
     removed_rows_answer_below, replaced_rows_answer_below, row_above_open_ticket_covers,
 };
+pub use work_laws::{entry_keeps_work, history_keeps_work, opening_keeps_work};

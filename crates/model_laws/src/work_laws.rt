@@ -1,0 +1,27 @@
+ghost use Rattle.std.specs.Prelude.{List};
+ghost use Rattle.mat_model.specs.declared.entries.Entry.{Entry};
+ghost use Rattle.mat_model.specs.declared.opening.Opening.{Opening};
+ghost use Rattle.mat_model.specs.History.{Point, after, after_all, book_of, next_number, opened, point_of};
+ghost use Rattle.mat_model.specs.Legal.{ComesInOrder, IsEach};
+ghost use Rattle.mat_model.specs.Openings.{IsOpening};
+ghost use Rattle.model_laws.specs.WorkRules.{IsWork};
+
+/// An entry whose work comes in order keeps the rules of a work state.
+pub fn entry_keeps_work()
+    ensures { (point : Point) (entry : Entry) → ComesInOrder point entry →
+        IsWork (next_number point) point.book.rows point.work →
+        IsWork (next_number (after point entry)) (after point entry).book.rows (after point entry).work }
+{}
+
+/// Behind any point, entries whose work comes in order keep the rules of a work state.
+pub fn history_keeps_work()
+    ensures { (point : Point) (later : List Entry) → IsEach ComesInOrder point later →
+        IsWork (next_number point) point.book.rows point.work →
+        IsWork (next_number (after_all point later)) (after_all point later).book.rows (after_all point later).work }
+{}
+
+/// From an opening that is right, every history whose work comes in order leads to a work state that keeps the rules.
+pub fn opening_keeps_work()
+    ensures { (opening : Opening) (history : List Entry) → IsOpening opening → IsEach ComesInOrder (opened opening) history →
+        IsWork (next_number (point_of opening history)) (book_of opening history).rows (point_of opening history).work }
+{}
