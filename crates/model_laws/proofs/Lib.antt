@@ -42,3 +42,5 @@ pub mod WorkMoves
 pub mod WorkBegins
 pub mod WorkDone
 pub mod WorkKept
+pub mod RunLemmas
+pub mod PreemptLemmas

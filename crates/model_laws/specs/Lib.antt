@@ -4,3 +4,4 @@ pub mod FirstRules
 pub mod TicketRules
 pub mod RoomRules
 pub mod WorkRules
+pub mod RunRules

@@ -6,6 +6,7 @@ mod first_laws;
 mod laws;
 mod room_laws;
 mod row_laws;
+mod run_laws;
 mod ticket_laws;
 mod work_laws;
 
@@ -26,6 +27,10 @@ pub use room_laws::{legal_history_is_within_limits, opening_is_within_limits, ro
 pub use row_laws::{
     entry_keeps_stamps, entry_leaves_rows, gone_stamp_stays_gone, history_keeps_stamps,
     opening_keeps_stamps, stamp_names_row,
+};
+pub use run_laws::{
+    clean_leaves_rows, clean_removes_stale, gone_make_changes_nothing, gone_make_never_changes,
+    preempted_by_whom_took_place, preempted_later_by_whom_took_place,
 };
 pub use ticket_laws::{
     clean_answers_nobody, failed_rows_answer_below, invalid_rows_answer_below,
