@@ -88,6 +88,9 @@ impl Turnstile for Counter {
     }
 }
 
+/// What may go to another thread.
+fn is_sent<T: Send + Sync>(_: &T) {}
+
 #[test]
 fn pieces_are_fetched_behind_a_turnstile(rt: HostRuntime) -> Result<(), Fail> {
     let alloc = rt.alloc();
@@ -109,6 +112,7 @@ fn pieces_are_fetched_behind_a_turnstile(rt: HostRuntime) -> Result<(), Fail> {
         (0, 9, b"abcde"),
         (3, 0, b""),
     ];
+    is_sent(&gated);
     for (at, most, bytes) in table.iter() {
         let found = piece(alloc, &mut gated, &digest, *at, *most)?;
         assert_eq!(rt; found.as_slice(), *bytes);
