@@ -1,18 +1,17 @@
 -- What stands at a path below children, and what a change of one of them does.
-use Rattle.mat_path.proofs.SameNames.{same_name-refl, same_name-sym}
+use Rattle.mat_path.proofs.SameNames.{same_name-refl}
 use Rattle.mat_path.proofs.PathLemmas.{lt_less, name_cmp-refl}
-use Rattle.std.proofs.Common.{◌≡◌, ◌<◌, ◌≤◌, ℕ, zero, suc, Bool, true, false, not, cond, ◌&&◌, List, [], ◌∷◌, ◌++◌, map, length, take, drop, get_or, append-nil, append_assoc, refl, ◌∙◌, sym, ap}
+use Rattle.std.proofs.Common.{◌≡◌, ℕ, true, false, not, ◌&&◌, List, [], ◌∷◌, ◌++◌, map, append-nil, append_assoc, refl, ◌∙◌, sym, ap}
 use Rattle.std.proofs.lemmas.List.{map-append}
 use Rattle.std.proofs.lemmas.List.Concat.{flat_map-append}
-use Rattle.std.specs.List.{filter, find, list_all}
+use Rattle.std.specs.List.{filter, list_all}
 use Rattle.std.specs.Option.{option_map}
 use Rattle.std.specs.Ordering.{is_lt, ordering_then}
-use Rattle.std.specs.declared.option.Option.{Option}
-use Rattle.std.specs.declared.option.Option.TheVariants.{Some, None}
-use Rattle.mat_path.specs.Names.{is_prefix, overlap, name_cmp, path_cmp, same_name, same_names}
+use Rattle.std.specs.declared.option.Option.TheVariants.{None}
+use Rattle.mat_path.specs.Names.{name_cmp, path_cmp, same_name, same_names}
 use Rattle.path_trie.specs.declared.entry.Entry.{Entry}
 use Rattle.path_trie.specs.declared.node.Edge.{Edge, out-Edge}
-use Rattle.path_trie.specs.Entries.{is_above, is_at, is_before, is_behind, is_elsewhere, overlaps, put, value_at, value_of, without}
+use Rattle.path_trie.specs.Entries.{is_at, is_before, is_behind, is_elsewhere, put, value_at, value_of, without}
 use Rattle.path_trie.specs.Nodes.{put_in, below_node, below_edge, below_all, comes_before, comes_behind, edge_name}
 use Rattle.path_trie.proofs.Lists.{find_first, first_of}
 use Rattle.path_trie.proofs.Told.{below_edge_out}

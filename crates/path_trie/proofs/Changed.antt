@@ -5,7 +5,7 @@ use Rattle.std.proofs.Common.{◌≡◌, ◌<◌, ◌≤◌, ◌+◌, ℕ, zero,
 use Rattle.std.proofs.lemmas.Bool.{and_from}
 use Rattle.std.proofs.lemmas.List.{length-append, length-map, map-append, take-append-drop, set_split}
 use Rattle.std.proofs.lemmas.List.Concat.{flat_map-append}
-use Rattle.std.specs.Cmp.{first_so, second_so}
+use Rattle.std.specs.Cmp.{second_so}
 use Rattle.std.specs.List.{insert, list_all, remove}
 use Rattle.std.specs.Ordering.{is_lt}
 use Rattle.std.specs.Result.{IfOk}
@@ -18,7 +18,7 @@ use Rattle.path_trie.specs.declared.node.Node.{Node}
 use Rattle.path_trie.specs.declared.node.Edge.{Edge, out-Edge}
 use Rattle.path_trie.specs.declared.node.Edge.TheViews.{roll-Edge, out-roll-Edge}
 use Rattle.path_trie.specs.declared.node.Edge.TheOpen as layer
-use Rattle.path_trie.specs.Entries.{are_in_turn, is_before, is_behind, put, without}
+use Rattle.path_trie.specs.Entries.{put, without}
 use Rattle.path_trie.specs.Nodes.{own, put_in, has_some, are_in_order, are_well, below_node, below_edge, below_all, comes_before, comes_behind, edge_name, is_well, is_well_edge}
 use Rattle.path_trie.proofs.Lists.{all_join, all_left, all_right}
 use Rattle.path_trie.proofs.Order.{asc_around, asc_left, asc_right, asc_without}
@@ -47,14 +47,14 @@ has_put path value xs = has_right _ _ _
 -- ---- a child changed
 
 -- the list with a child's node changed
-changed : {T : Type 0} (es : List (Edge T)) (k : ℕ) (e f : Edge T) (name : List ℕ) → k < length es → edge_name f ≡ name
+pub changed : {T : Type 0} (es : List (Edge T)) (k : ℕ) (e f : Edge T) (name : List ℕ) → k < length es → edge_name f ≡ name
     → below_all (set es k f) ≡ below_all (take k es) ++ (map (put_in name) (below_node (out-Edge T f).node) ++ below_all (drop (suc k) es))
 changed {T} es k e f name l n =
     ap below_all (set_split es k f l) ∙ below_around (take k es) (drop (suc k) es) f
     ∙ ap (λ t. below_all (take k es) ++ (map (put_in t) (below_node (out-Edge T f).node) ++ below_all (drop (suc k) es))) n
 
 -- the list around a child
-unchanged : {T : Type 0} (es : List (Edge T)) (k : ℕ) (e : Edge T) (name : List ℕ) → k < length es → e ≡ get_or es k e → edge_name e ≡ name
+pub unchanged : {T : Type 0} (es : List (Edge T)) (k : ℕ) (e : Edge T) (name : List ℕ) → k < length es → e ≡ get_or es k e → edge_name e ≡ name
     → below_all es ≡ below_all (take k es) ++ (map (put_in name) (below_node (out-Edge T e).node) ++ below_all (drop (suc k) es))
 unchanged {T} es k e name l is n =
     ap below_all (around es k e l is) ∙ below_around (take k es) (drop (suc k) es) e

@@ -1,12 +1,11 @@
 -- What a node keeps, and what is at and below it by what is below its children.
-use Rattle.std.proofs.Common.{◌≡◌, ◌<◌, ◌≤◌, ◌-◌, ◌+◌, ℕ, zero, suc, Bool, true, false, not, cond, ◌&&◌, List, [], ◌∷◌, ◌++◌, map, length, take, drop, get_or, refl, ◌∙◌, sym, ap, subst, arith}
+use Rattle.std.proofs.Common.{◌≡◌, ◌<◌, ◌≤◌, ◌-◌, ◌+◌, ℕ, suc, Bool, true, false, not, cond, ◌&&◌, List, [], ◌∷◌, ◌++◌, map, length, take, drop, get_or, refl, ◌∙◌, sym, ap, subst, arith}
 use Rattle.std.proofs.lemmas.Bool.{and_from, eq-eqb}
 use Rattle.std.specs.Prelude.{nat_eq}
 use Rattle.std.proofs.Math.Dec.{eqb-suc-zero}
-use Rattle.std.specs.Option.{is_some}
-use Rattle.std.proofs.lemmas.List.{length-append, map-append, take_all, take-append-drop}
+use Rattle.std.proofs.lemmas.List.{length-append, take_all, take-append-drop}
 use Rattle.std.specs.Cmp.{first_so, second_so}
-use Rattle.std.specs.List.{filter, find, list_all}
+use Rattle.std.specs.List.{filter, list_all}
 use Rattle.std.specs.Option.{option_map}
 use Rattle.std.specs.declared.option.Option.{Option}
 use Rattle.std.specs.declared.option.Option.TheVariants.{Some, None}
@@ -20,9 +19,9 @@ use Rattle.path_trie.specs.declared.node.Edge.{Edge, out-Edge}
 use Rattle.path_trie.specs.declared.node.Edge.TheOpen as layer
 use Rattle.path_trie.specs.declared.node.Edge.TheViews.{roll-Node, out-roll-Node}
 use Rattle.path_trie.specs.Entries.{is_at, is_before, is_behind, is_elsewhere, put, value_at, value_of, without}
-use Rattle.path_trie.specs.Nodes.{own, put_in, has_some, are_in_order, are_well, below_node, below_edge, below_all, comes_before, comes_behind, edge_name, is_well, is_well_edge, node_count}
+use Rattle.path_trie.specs.Nodes.{own, has_some, are_in_order, are_well, below_node, below_all, comes_before, comes_behind, edge_name, is_well, is_well_edge, node_count}
 use Rattle.path_trie.proofs.Lists.{find_first, first_of, split_at}
-use Rattle.path_trie.proofs.Told.{below_edge_out, below_node_out, count_out, well_edge_out, well_out}
+use Rattle.path_trie.proofs.Told.{below_node_out, count_out, well_edge_out, well_out}
 use Rattle.path_trie.proofs.Around.{alike_below}
 use Rattle.mat_path.proofs.Halves.{all_at}
 use Rattle.path_trie.proofs.Halves.{back_is, between_before, between_behind, edge_cmp, found_name, front_is, name_at, rises}

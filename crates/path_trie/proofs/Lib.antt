@@ -11,5 +11,6 @@ pub mod RootLemmas
 pub mod Seeks
 pub mod Shortest
 pub mod ShownLemmas
+pub mod Swaps
 pub mod Told
 pub mod WalkLemmas

@@ -1,9 +1,9 @@
 -- The first entry of a list in order that passes a test which holds from some path on.
-use Rattle.mat_path.proofs.PathLemmas.{lt_less, path_cmp_total, path_cmp_equal, path_cmp-refl, prefix_not_greater, name_cmp-refl}
+use Rattle.mat_path.proofs.PathLemmas.{lt_less, path_cmp_total, path_cmp_equal, path_cmp-refl, prefix_not_greater}
 use Rattle.mat_path.proofs.SameNames.{same_name-eq, same_name-refl, same_names-eq}
 use Rattle.mat_path.specs.Order.{same_names_ties}
-use Rattle.std.proofs.Common.{◌≡◌, ◌≤◌, ◌+◌, ℕ, zero, suc, Bool, true, false, not, cond, ◌&&◌, ◌⊎◌, inl, inr, List, [], ◌∷◌, map, length, Ordering, Less, Equal, Greater, is_eq, refl, ◌∙◌, sym, ap, subst, arith}
-use Rattle.std.proofs.lemmas.Bool.{and_parts, both_ways}
+use Rattle.std.proofs.Common.{◌≡◌, ℕ, zero, suc, Bool, true, false, not, cond, ◌&&◌, inl, inr, List, [], ◌∷◌, map, length, Ordering, Less, Equal, Greater, is_eq, refl, ◌∙◌, sym, ap, arith}
+use Rattle.std.proofs.lemmas.Bool.{both_ways}
 use Rattle.std.specs.Cmp.{first_so, second_so}
 use Rattle.std.specs.Cmp.Lexicographic.{texts_ties}
 use Rattle.std.specs.List.{find, list_all, slice_get}
@@ -14,7 +14,7 @@ use Rattle.std.specs.declared.option.Option.TheVariants.{Some, None}
 use Rattle.mat_path.specs.Names.{is_prefix, name_cmp, path_cmp, same_name, same_names}
 use Rattle.path_trie.specs.declared.entry.Entry.{Entry}
 use Rattle.path_trie.specs.declared.node.Node.{Node}
-use Rattle.path_trie.specs.Entries.{ascends, both, is_at, is_before, is_behind, is_from, is_less, is_next_under, is_under, value_of}
+use Rattle.path_trie.specs.Entries.{ascends, is_at, is_before, is_behind, is_from, is_less, is_next_under, is_under, value_of}
 use Rattle.path_trie.specs.Nodes.{below_node}
 use Rattle.path_trie.specs.Roots.{is_placed, kept_if, shown, shown_all}
 

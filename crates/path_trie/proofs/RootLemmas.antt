@@ -11,11 +11,11 @@ use Rattle.std.specs.Result.{IfErr, IfOk, is_ok}
 use Rattle.std.specs.declared.result.Result.{Result}
 use Rattle.std.specs.declared.result.Result.TheVariants.{Ok, Err}
 use Rattle.std.specs.declared.option.Option.{Option}
-use Rattle.std.specs.declared.option.Option.TheVariants.{Some, None}
+use Rattle.std.specs.declared.option.Option.TheVariants.{Some}
 use Rattle.mat_path.specs.Names.{path_cmp, same_names}
 use Rattle.path_trie.specs.declared.entry.Entry.{Entry}
 use Rattle.path_trie.specs.declared.node.Node.{Node}
-use Rattle.path_trie.specs.Entries.{ascends, are_in_turn, is_at, is_before, is_behind, is_elsewhere, is_less, put, value_at, value_of, without}
+use Rattle.path_trie.specs.Entries.{ascends, is_at, is_before, is_behind, is_elsewhere, is_less, put, value_at, value_of, without}
 use Rattle.path_trie.specs.Nodes.{below_node, is_well}
 use Rattle.path_trie.specs.Roots.{is_placed, shown, shown_all, value_put, IsTrie}
 use Rattle.path_trie.proofs.Lists.{all_filter, all_join, filter_in, filter_passes}

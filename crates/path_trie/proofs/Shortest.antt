@@ -2,7 +2,7 @@
 use Rattle.mat_path.proofs.Elements.{contains_cases, contains_first, contains_more, each_fails}
 use Rattle.mat_path.proofs.PathLemmas.{name_cmp-refl}
 use Rattle.mat_path.proofs.SameNames.{same_name-eq}
-use Rattle.std.proofs.Common.{◌≡◌, ◌≤◌, ◌⊎◌, inl, inr, ℕ, zero, suc, Bool, true, false, cond, ◌&&◌, List, [], ◌∷◌, length, Contains, refl, ◌∙◌, sym, ap, subst, arith}
+use Rattle.std.proofs.Common.{◌≡◌, ◌≤◌, inl, inr, ℕ, Bool, true, false, cond, List, [], ◌∷◌, length, Contains, refl, ◌∙◌, sym, ap, subst, arith}
 use Rattle.std.proofs.lemmas.Bool.{both_ways}
 use Rattle.std.specs.Cmp.{first_so, second_so}
 use Rattle.std.specs.List.{find, list_all}

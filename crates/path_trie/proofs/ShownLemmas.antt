@@ -6,7 +6,7 @@ use Rattle.std.specs.Cmp.{first_so, second_so}
 use Rattle.std.specs.List.{filter, find, list_all, list_any}
 use Rattle.std.specs.Option.{option_map}
 use Rattle.std.specs.declared.option.Option.{Option}
-use Rattle.std.specs.declared.option.Option.TheVariants.{Some, None}
+use Rattle.std.specs.declared.option.Option.TheVariants.{Some}
 use Rattle.mat_path.specs.Names.{is_name, is_path, is_rel, joined}
 use Rattle.path_trie.specs.declared.entry.Entry.{Entry}
 use Rattle.path_trie.specs.declared.node.Node.{Node}

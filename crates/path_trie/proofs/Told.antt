@@ -1,14 +1,13 @@
 -- The equations of what is told of a node.
-use Rattle.std.proofs.Common.{◌≡◌, ℕ, Bool, true, ◌&&◌, List, [], ◌∷◌, ◌++◌, map, length, refl, ◌∙◌, ap, sym}
+use Rattle.std.proofs.Common.{◌≡◌, true, ◌&&◌, List, [], ◌∷◌, ◌++◌, map, length, refl, ◌∙◌, ap, sym}
 use Rattle.std.proofs.lemmas.Bool.{eqb-true}
 use Rattle.std.specs.Cmp.{first_so}
 use Rattle.std.specs.Prelude.{nat_eq}
 use Rattle.std.specs.List.{flat_map, list_all}
-use Rattle.path_trie.specs.declared.entry.Entry.{Entry}
 use Rattle.path_trie.specs.declared.node.Node.{Node, out-Node}
 use Rattle.path_trie.specs.declared.node.Edge.{Edge, out-Edge}
 use Rattle.path_trie.specs.declared.node.Edge.TheFolds.{fold_out-Node, fold_out-Edge}
-use Rattle.path_trie.specs.Nodes.{Told, ToldEdge, own, put_in, has_some, are_in_order, told_entries, told_name, told_well, edge_step, node_step, tell_node, tell_edge, below_node, is_well, below_edge, is_well_edge, below_all, edge_name, are_well, node_count}
+use Rattle.path_trie.specs.Nodes.{Told, ToldEdge, own, put_in, has_some, are_in_order, told_entries, told_name, told_well, edge_step, node_step, tell_edge, below_node, is_well, below_edge, is_well_edge, below_all, edge_name, are_well, node_count}
 
 -- a child, from its node
 pub below_edge_out : {T : Type 0} (e : Edge T) → below_edge e ≡ map (put_in (edge_name e)) (below_node (out-Edge T e).node)

@@ -1,6 +1,6 @@
 -- Walks along some names: the entry at the fewest, and those that overlap.
 use Rattle.mat_path.proofs.SameNames.{same_name-refl, same_name-sym}
-use Rattle.std.proofs.Common.{◌≡◌, ◌<◌, ◌≤◌, ◌+◌, ℕ, zero, suc, Bool, true, false, not, cond, ◌&&◌, ◌||◌, List, [], ◌∷◌, ◌++◌, map, length, take, drop, get_or, append-nil, append_assoc, refl, ◌∙◌, sym, ap, arith}
+use Rattle.std.proofs.Common.{◌≡◌, ◌<◌, ◌≤◌, ◌+◌, ℕ, suc, Bool, true, false, not, cond, ◌&&◌, ◌||◌, List, [], ◌∷◌, ◌++◌, map, length, take, drop, get_or, append-nil, append_assoc, refl, ◌∙◌, sym, ap, arith}
 use Rattle.std.proofs.lemmas.List.{map-append, take-append-drop, take_all, take_more}
 use Rattle.std.proofs.lemmas.List.Concat.{flat_map-append}
 use Rattle.std.specs.List.{filter, find, list_all, list_any}
@@ -10,7 +10,7 @@ use Rattle.std.specs.declared.result.Result.{Result}
 use Rattle.std.specs.declared.result.Result.TheVariants.{Ok, Err}
 use Rattle.std.specs.declared.option.Option.{Option}
 use Rattle.std.specs.declared.option.Option.TheVariants.{Some, None}
-use Rattle.mat_path.specs.Names.{is_prefix, overlap, same_name}
+use Rattle.mat_path.specs.Names.{is_prefix, same_name}
 use Rattle.path_trie.specs.declared.entry.Entry.{Entry}
 use Rattle.path_trie.specs.declared.node.Node.{Node, out-Node}
 use Rattle.path_trie.specs.declared.node.Edge.{Edge, out-Edge}

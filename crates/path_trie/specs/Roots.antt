@@ -1,11 +1,11 @@
 -- The entries of a trie, from its root.
-use Rattle.std.specs.Prelude.{◌≡◌, Bool, true, List, map, if◌then◌else◌, Option, Some, None, Result, Ok, Err}
+use Rattle.std.specs.Prelude.{◌≡◌, ℕ, Bool, true, List, map, if◌then◌else◌, Option, Some, None, Result, Ok, Err}
 use Rattle.std.specs.Option.{option_map}
 use Rattle.std.specs.List.{list_all}
 use Rattle.mat_path.specs.Names.{same_names}
 use Rattle.path_trie.specs.declared.entry.Entry.{Entry}
 use Rattle.path_trie.specs.declared.node.Node.{Node}
-use Rattle.path_trie.specs.Entries.{ascends, value_of}
+use Rattle.path_trie.specs.Entries.{ascends, put, value_of}
 use Rattle.path_trie.specs.Nodes.{below_node, is_well}
 
 -- an entry at its place, from what is kept there
@@ -35,3 +35,13 @@ value_put (Err entry) = Err entry.value
 abbrev pub kept_if : {X : Type 0} → (X → Bool) → Option X → Option X
 kept_if test None = None
 kept_if test (Some x) = if test x then Some x else None
+
+-- the entries with another value in what is kept at a path, if something is kept there
+abbrev pub with_value : {V : Type 0} → Option (Entry V) → List (List ℕ) → V → List (Entry (Entry V)) → List (Entry (Entry V))
+with_value None path value entries = entries
+with_value (Some kept) path value entries = put path (record { path = kept.path; value = value }) entries
+
+-- what is kept at a place with another value, if something is kept there
+abbrev pub own_with : {V : Type 0} → Option (Entry V) → V → Option (Entry V)
+own_with None value = None
+own_with (Some kept) value = Some (record { path = kept.path; value = value })

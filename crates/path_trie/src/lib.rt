@@ -9,6 +9,7 @@ mod node;
 mod pick;
 mod seek;
 mod steps;
+mod swap;
 mod trie;
 mod walk;
 

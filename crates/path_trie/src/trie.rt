@@ -1,6 +1,7 @@
 ghost use Rattle.std.specs.Prelude.{◌≡◌, ◌+◌, ◌≤◌, [], true, is_ok, length, map, nat_eq, if◌then◌else◌, IfErr, IfOk, IfSome};
 ghost use Rattle.std.specs.List.{filter, find, list_any, slice_get};
 ghost use Rattle.std.specs.Option.{option_copied, option_map};
+ghost use Rattle.std.specs.Result.{result_ok};
 ghost use Rattle.path_trie.specs.Roots.{kept_if, value_put};
 ghost use Rattle.path_trie.specs.Entries.{ascends, both, cover_of, is_behind, is_from, is_high, is_next_under, is_under, overlaps, path_of, put, value_at, value_of, without};
 
@@ -11,6 +12,7 @@ use crate::node::Node;
 use crate::pick::value_at;
 use crate::seek::{behind_at, high_at};
 use crate::steps::Steps;
+use crate::swap::swap_at;
 use crate::walk::{cover_at, gather_at, overlaps_at};
 use mat_path::{Memory, Path};
 use std::alloc::Global;
@@ -75,6 +77,16 @@ impl<V: Drop> Trie<V> {
         }
         let entry = Entry { path: own, value };
         values_put(put_at(self.alloc, &mut self.root, path.names(), entry))
+    }
+
+    /// Puts a value in place of the one at a path, and gives that. Where none stands at the path it gives the value back. Takes no
+    /// memory: to change a value where it stands, put an empty one in its place for that long.
+    pub fn replace(&mut self, path: &Path, value: V) -> Result<V, V>
+        ensures list { self.new ≡ (if is_ok result then put path.now value self.old else self.old) }
+        ensures old { result_ok result ≡ value_at path.now self.old }
+        ensures back { IfErr result (λ back. back ≡ value) }
+    {
+        swap_at(&mut self.root, path.names(), value)
     }
 
     /// Takes the value at a path away, and gives it. Takes no memory.

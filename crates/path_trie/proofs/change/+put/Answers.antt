@@ -5,7 +5,7 @@ use Rattle.std.proofs.lemmas.List.{nil_from_length}
 use Rattle.path_trie.specs.declared.node.Edge.TheViews.{roll-Edge}
 use Rattle.path_trie.specs.Entries.{value_at}
 use Rattle.path_trie.specs.Nodes.{below_all, below_node, edge_name, own}
-use Rattle.path_trie.proofs.Kept.{child_edge, child_well, edges_counted, edges_put, err_before, few_edges, err_behind, here_counted, here_put, in_order, names_split, ok_found, ok_within, value_edges, value_found, value_none, value_own, well_counted, well_edges}
+use Rattle.path_trie.proofs.Kept.{child_edge, child_well, edges_counted, edges_put, err_before, few_edges, err_behind, here_counted, here_put, names_split, ok_found, ok_within, value_edges, value_found, value_none, value_own, well_counted, well_edges}
 use Rattle.path_trie.proofs.Changed.{count_changed, count_part, edge_well, has_kept, ok_more, old_same, put_changed, rolled_name, rolled_node, well_changed}
 use Rattle.path_trie.proofs.change.+put.Goals as goal
 

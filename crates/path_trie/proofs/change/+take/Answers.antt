@@ -1,6 +1,6 @@
 use Rattle.std.proofs.Common.{None, length, ◌+◌, refl, ap, sym, ◌∙◌, arith}
 use Rattle.std.proofs.lemmas.List.{nil_from_length}
-use Rattle.path_trie.proofs.Kept.{edges_counted, edges_taken, few_edges, few_own, here_counted, plus_zero, well_counted, here_taken, err_before, err_behind, in_order, is_there, names_split, ok_found, ok_within, value_edges, value_found, value_none, value_own, well_edges}
+use Rattle.path_trie.proofs.Kept.{edges_counted, edges_taken, few_edges, few_own, here_counted, plus_zero, well_counted, here_taken, err_before, err_behind, is_there, names_split, ok_found, ok_within, value_edges, value_found, value_none, value_own, well_edges}
 use Rattle.path_trie.proofs.Changed.{count_changed, count_removed, none_left, rolled_name, rolled_node, take_changed, take_none, take_removed, well_changed, well_removed, edge_well}
 use Rattle.path_trie.specs.declared.node.Edge.TheViews.{roll-Edge}
 use Rattle.path_trie.specs.Entries.{value_at}

@@ -1,6 +1,4 @@
-use Rattle.std.proofs.Common.{arith}
 use Rattle.path_trie.proofs.Kept.{child_well}
-use Rattle.path_trie.proofs.Picks.{all_passed, one_more}
 use Rattle.path_trie.proofs.pick.place_among.Goals as goal
 
 pub len-count-requires : goal.len-count-requires

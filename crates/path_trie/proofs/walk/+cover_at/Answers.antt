@@ -1,4 +1,4 @@
-use Rattle.std.proofs.Common.{length, get_or, ap, sym, ◌∙◌, arith}
+use Rattle.std.proofs.Common.{get_or, ap, sym, ◌∙◌, arith}
 use Rattle.std.proofs.lemmas.List.{nil_from_length}
 use Rattle.path_trie.proofs.Kept.{child_well, in_order, names_split, well_edges}
 use Rattle.path_trie.proofs.WalkLemmas.{cover_absent, cover_below, cover_nowhere, cover_own}

@@ -1,4 +1,4 @@
-use Rattle.std.proofs.Common.{length, get_or, ap, sym, ◌++◌, ◌∙◌, map, arith}
+use Rattle.std.proofs.Common.{get_or, ap, sym, ◌++◌, ◌∙◌, map, arith}
 use Rattle.std.proofs.lemmas.List.{nil_from_length}
 use Rattle.path_trie.specs.Walks.{kept_path}
 use Rattle.path_trie.specs.Nodes.{below_node}

@@ -1,4 +1,4 @@
-use Rattle.std.proofs.Common.{length, get_or, ap, sym, ◌∙◌, not, arith}
+use Rattle.std.proofs.Common.{get_or, ap, sym, ◌∙◌, not, arith}
 use Rattle.std.proofs.lemmas.List.{nil_from_length}
 use Rattle.path_trie.proofs.Kept.{child_well, in_order, names_split, well_edges}
 use Rattle.path_trie.proofs.WalkLemmas.{not_not, over_absent, over_below, over_own, over_root}

@@ -1,4 +1,3 @@
-use Rattle.std.proofs.Common.{◌∙◌}
 use Rattle.path_trie.proofs.Kept.{bare_is}
 use Rattle.path_trie.proofs.node.Node.is_bare.Goals as goal
 

@@ -1,4 +1,4 @@
-use Rattle.std.proofs.Common.{Some, None, arith}
+use Rattle.std.proofs.Common.{None, arith}
 use Rattle.path_trie.proofs.ShownLemmas.{cover_as, path_short}
 use Rattle.path_trie.proofs.trie.Trie.cover.Goals as goal
 

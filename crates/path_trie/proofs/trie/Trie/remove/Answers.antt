@@ -1,4 +1,4 @@
-use Rattle.std.proofs.Common.{ap, ◌∙◌}
+use Rattle.std.proofs.Common.{◌∙◌}
 use Rattle.path_trie.proofs.RootLemmas.{found_as, list_taken, trie_taken}
 use Rattle.path_trie.proofs.trie.Trie.remove.Goals as goal
 
