@@ -50,9 +50,9 @@ use Rattle.model_laws.proofs.BooksLists.{contains_any}
 use Rattle.model_laws.proofs.BooksRoom.{history_short, none_parts}
 use Rattle.model_laws.proofs.Changes.{standing-path, standing-stamp, standing-tree}
 use Rattle.model_laws.proofs.Elements.{found_contains, found_passes}
-use Rattle.model_laws.proofs.RoomCases.{Goes, asked_goes, fault_note}
+use Rattle.model_laws.proofs.RoomCases.{Goes, asked_goes}
 use Rattle.model_laws.proofs.RoomLists.{alone_stored, any_mapped, count_fewer, fewer_filtered, one_less, sum_alike}
-use Rattle.model_laws.proofs.RowCases.{either_served}
+use Rattle.model_laws.proofs.RowCases.{either_served, fault_note}
 use Rattle.model_laws.proofs.Serving.{ended_by}
 
 -- the point after an event that was served so, with its entry
