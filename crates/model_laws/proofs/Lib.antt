@@ -44,3 +44,4 @@ pub mod WorkDone
 pub mod WorkKept
 pub mod RunLemmas
 pub mod PreemptLemmas
+pub mod DebrisOrder

@@ -15,12 +15,13 @@ use Rattle.mat_model.specs.declared.entries.Task.{Task}
 use Rattle.mat_model.specs.declared.entries.Task.TheVariants as task
 use Rattle.mat_model.specs.Rows.{are_apart, comes_before, is_at_path}
 use Rattle.mat_model.specs.Work.{is_declared}
-use Rattle.mat_model.specs.WorkState.{Debris, Job, Lent, Way, WayOf, WorkState, add_debris, condemn, condemned_all, copied, has_loan, held, is_dirty, is_lent, is_not_below, is_stray, leaves_debris, lent_by, lends_at, lent_of, marked, path_of_debris, path_of_task, put_debris, refused, removed_rows, started, stands_as, store, way_of, without_removed}
+use Rattle.mat_model.specs.WorkState.{Debris, Job, Lent, Way, WayOf, WorkState, add_debris, condemn, condemned_all, copied, has_loan, held, is_dirty, is_kept_dirty, is_lent, is_not_below, is_stray, leaves_debris, lent_by, lends_at, lent_of, marked, path_of_debris, path_of_task, put_debris, refused, removed_rows, started, stands_as, store, way_of, without_removed}
 use Rattle.model_laws.specs.FirstRules.{MakeMayBegin, WipeMayBegin}
 use Rattle.model_laws.specs.RowRules.{AreStampedBelow}
 use Rattle.model_laws.specs.WorkRules.{IsJob, IsLender, IsLentBy, IsPartBelow, IsWork, are_reading, owns_by}
 use Rattle.model_laws.proofs.BooksLists.{contains_any}
-use Rattle.model_laws.proofs.Coverings.{covering_claims, paths-map}
+use Rattle.model_laws.proofs.Coverings.{covering-add, covering_claims, paths-map}
+use Rattle.model_laws.proofs.DebrisOrder.{Ascends, add_ascends, ascends-map, filter_ascends}
 use Rattle.model_laws.proofs.Elements.{found_contains, found_passes}
 use Rattle.model_laws.proofs.StampLemmas.{one_stamp}
 use Rattle.model_laws.proofs.WorkBase.{Base, Steps, base_of, step_base}
@@ -31,11 +32,13 @@ use Rattle.model_laws.proofs.WorkMoves.{debris_base, later_base, push_base}
 -- the rules of a work state but for those of the rows alone
 pub record Kept (next : ℕ) (rows : List Row) (work : WorkState) : Type 0 where
   pub base : Base next rows work.jobs work.dirty (map path_of_debris work.debris)
+  pub order : Ascends work.debris
   pub claimed : Claimed (are_reading work.jobs) [] rows work.dirty work.debris work.jobs
 
 pub kept_of : (next : ℕ) (rows : List Row) (work : WorkState) → IsWork next rows work → Kept next rows work
 kept_of next rows work rules = record {
   base = base_of next rows work rules;
+  order = rules.order;
   claimed = λ x. omega (arith, rules.claims x, covering_claims x rows work);
 }
 
@@ -47,6 +50,7 @@ work_of next rows work apart stamped kept = record {
   jobs = kept.base.each;
   wipes = kept.base.wipes;
   dirty = kept.base.lying;
+  order = kept.order;
   claims = λ x. let most = kept.claimed x in omega (arith, most, covering_claims x rows work);
 }
 
@@ -54,6 +58,7 @@ work_of next rows work apart stamped kept = record {
 pub kept_later : (next : ℕ) (rows : List Row) (work : WorkState) → Kept next rows work → Kept (next + 1) rows work
 kept_later next rows work kept = record {
   base = later_base next rows work.jobs work.dirty (map path_of_debris work.debris) kept.base;
+  order = kept.order;
   claimed = kept.claimed;
 }
 
@@ -63,6 +68,7 @@ pub kept_marked : (next : ℕ) (rows : List Row) (work : WorkState) (f : Debris 
 kept_marked next rows work f keeps kept =
     let same : map path_of_debris (map f work.debris) ≡ map path_of_debris work.debris = paths-map f keeps work.debris in record {
       base = subst (λ (ps : List (List (List ℕ))). Base next rows work.jobs work.dirty ps) (sym same) kept.base;
+      order = ascends-map f keeps work.debris ∙ kept.order;
       claimed = λ x. let most = kept.claimed x in omega (arith, most, ap (covering x) same);
     }
 
@@ -111,9 +117,16 @@ kept_removed next place rows left work by_clean ways before apart stamped steps 
   base = step_base next place rows left work.jobs work.dirty (map path_of_debris work.debris)
       (map path_of_debris (add_debris by_clean (filter (leaves_debris work) (removed_rows rows left)) work.debris)) kept.base stamped steps
       (add_keeps by_clean (filter (leaves_debris work) (removed_rows rows left)) work.debris);
-  claimed = step_claims next place rows left work.jobs work.dirty work.debris (leaves_debris work) by_clean kept.base before apart stamped steps
-      (λ row among leaves. leaves_owned next rows work row kept among leaves) kept.claimed;
+  order = add_ascends by_clean (filter (leaves_debris work) (removed_rows rows left)) work.debris kept.order
+      (λ x. let most = claimed x in omega (arith, most, covering-add x by_clean (filter (leaves_debris work) (removed_rows rows left)) work.debris));
+  claimed = claimed;
 }
+  where
+    claimed : Claimed (are_reading work.jobs) [] left (filter (is_kept_dirty (removed_rows rows left)) work.dirty)
+        (add_debris by_clean (filter (leaves_debris work) (removed_rows rows left)) work.debris) work.jobs
+    claimed =
+        step_claims next place rows left work.jobs work.dirty work.debris (leaves_debris work) by_clean kept.base before apart stamped steps
+        (λ row among leaves. leaves_owned next rows work row kept among leaves) kept.claimed
 
 -- the path of debris that a clean of all condemned
 condemn-path : (jobs : List Job) (debris : Debris) → (condemn jobs debris).path ≡ debris.path
@@ -175,6 +188,7 @@ kept_make next caller path stamp book work apart stamped may kept = record {
       (λ other among wiped is within. left other among wiped is within))
       refl rules (λ other among wiped is too. absurd cc)
       (λ other among. (filtered_contains (λ (q : List (List ℕ)). not (same_names q path)) work.dirty other among).0);
+  order = filter_ascends (is_not_below path) work.debris kept.order;
   claimed = make_claims book.rows work.jobs work.dirty work.debris job path stamp may.row apart (λ other among. (kept.base.each other among).lent) refl may.among
       may.placed may.lies may.free may.clear lends kept.claimed;
 }
@@ -226,6 +240,7 @@ kept_wipe next caller path book work apart may kept = record {
       (subst (λ (t : Task). overlap (path_of_task t) path ≡ true) (sym too)
       (subst (λ (p : List (List ℕ)). overlap p path ≡ true) same (overlap-refl path))))))
       (λ other among. among);
+  order = kept.order;
   claimed = wipe_claims book.rows work.jobs work.dirty work.debris job path apart refl refl kept.claimed;
 }
   where

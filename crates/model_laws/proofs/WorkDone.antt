@@ -24,6 +24,7 @@ use Rattle.std.specs.Option.{option_map_or}
 use Rattle.model_laws.proofs.Apart.{apart-map}
 use Rattle.model_laws.proofs.Changes.{standing-path}
 use Rattle.model_laws.proofs.Coverings.{covering_of_job, paths-map, row_covers}
+use Rattle.model_laws.proofs.DebrisOrder.{Ascends, ascends-map, filter_ascends, put_apart}
 use Rattle.model_laws.proofs.Elements.{found_contains, found_passes}
 use Rattle.model_laws.proofs.WorkBase.{Base, HasLying, lying_row}
 use Rattle.model_laws.proofs.WorkBegins.{Kept, put_keeps}
@@ -36,6 +37,7 @@ record Ending (next : ℕ) (is_read : ℕ → Bool) (jobs : List Job) (loose : L
   same : work.jobs ≡ jobs
   apart : are_apart rows ≡ true
   base : Base next rows work.jobs work.dirty (map path_of_debris work.debris)
+  order : Ascends work.debris
   claimed : Claimed is_read loose rows work.dirty work.debris work.jobs
   lent : IsLentBy rows o
 
@@ -80,6 +82,8 @@ ending_stale next is_read jobs path stamp loose o rows work ending = record {
   base = debris_base next rows work.jobs work.dirty (map path_of_debris work.debris)
       (map path_of_debris (put_debris (record { path = path; condemned = false }) work.debris)) ending.base
       (λ job among wiped is within. put_keeps (record { path = path; condemned = false }) work.debris wiped within);
+  order = put_apart (record { path = path; condemned = false }) work.debris ending.order
+      (λ x. let most = ending.claimed x in omega (arith, most));
   claimed = taken_over is_read (task.Make path stamp) loose rows work.dirty work.debris rows work.dirty
       (put_debris (record { path = path; condemned = false }) work.debris) work.jobs
       (stale_takes is_read path stamp false rows work.dirty work.debris) ending.claimed;
@@ -95,6 +99,7 @@ ending_made next is_read jobs path stamp loose o rows work ending = record {
   base = made_base next rows work.jobs work.dirty (map path_of_debris work.debris) path ending.base
       (make_alone is_read path loose rows work.dirty work.debris work.jobs ending.claimed)
       (make_clean is_read next path loose rows work.dirty work.debris work.jobs ending.base ending.claimed);
+  order = ending.order;
   claimed = taken_over is_read (task.Make path stamp) loose rows work.dirty work.debris (map (standing_row path) rows) work.dirty work.debris work.jobs
       (made_takes is_read path stamp rows work.dirty work.debris ending.apart) ending.claimed;
   lent = made_lent path rows o ending.lent;
@@ -108,6 +113,7 @@ ending_failed next is_read jobs path stamp loose o rows work lying ending = reco
   same = ending.same;
   apart = ending.apart;
   base = failed_base next rows work.jobs work.dirty (map path_of_debris work.debris) path ending.base lying;
+  order = ending.order;
   claimed = taken_over is_read (task.Make path stamp) loose rows work.dirty work.debris rows (path ∷ work.dirty) work.debris work.jobs
       (failed_takes is_read path stamp rows work.dirty work.debris ending.apart) ending.claimed;
   lent = ending.lent;
@@ -128,6 +134,7 @@ ending_wiped next is_read jobs path loose o rows work alone ending = record {
       (λ same. alone job among (subst (λ (p : List (List ℕ)). job.task ≡ task.Wipe p) (sym at ∙ same_names-eq one.path path same) is)) in
       subst (λ (p : List (List ℕ)). Contains (map path_of_debris (filter (is_elsewhere path) work.debris)) p) at
       (contains_map path_of_debris (filter (is_elsewhere path) work.debris) one (contains_filter (is_elsewhere path) work.debris one (ap not other) lying)));
+  order = filter_ascends (is_elsewhere path) work.debris ending.order;
   claimed = taken_over is_read (task.Wipe path) loose rows work.dirty work.debris rows work.dirty (filter (is_elsewhere path) work.debris) work.jobs
       (wiped_takes is_read path rows work.dirty work.debris) ending.claimed;
   lent = ending.lent;
@@ -142,6 +149,7 @@ ending_marked next is_read jobs path loose o rows work ending = record {
   apart = ending.apart;
   base = subst (λ (ps : List (List (List ℕ))). Base next rows work.jobs work.dirty ps)
       (sym (paths-map (marked false path) (marked-path false path) work.debris)) ending.base;
+  order = ascends-map (marked false path) (marked-path false path) work.debris ∙ ending.order;
   claimed = taken_over is_read (task.Wipe path) loose rows work.dirty work.debris rows work.dirty (map (marked false path) work.debris) work.jobs
       (marked_takes is_read (task.Wipe path) false path rows work.dirty work.debris) ending.claimed;
   lent = ending.lent;
@@ -206,6 +214,7 @@ part_returns : (next : ℕ) (is_read : ℕ → Bool) (jobs : List Job) (o : Opti
     Ending next is_read jobs (claimed_by_part o) o rows work → Kept next rows (returned o rows work)
 part_returns next is_read jobs None rows work cases ending = record {
   base = ending.base;
+  order = ending.order;
   claimed = nothing_back is_read (are_reading work.jobs) rows work.dirty work.debris work.jobs ending.apart (λ stamp off. cases stamp (still stamp off)) ending.claimed;
 }
   where
@@ -222,11 +231,13 @@ part_returns next is_read jobs (Some part) rows work cases ending = by (list_any
     by : (b : Bool) → list_any (has_stamp part.stamp) rows ≡ b → Kept next rows (cond b work (record work { debris = put_debris new work.debris }))
     by true there = record {
       base = ending.base;
+      order = ending.order;
       claimed = part_back is_read (are_reading work.jobs) rows work.dirty work.debris work.jobs part ending.apart ending.lent (λ stamp off. cases stamp (still stamp off)) ending.claimed;
     }
     by false gone = record {
       base = debris_base next rows work.jobs work.dirty (map path_of_debris work.debris) (map path_of_debris (put_debris new work.debris)) ending.base
           (λ job among wiped is within. put_keeps new work.debris wiped within);
+      order = put_apart new work.debris ending.order (λ x. let most = ending.claimed x in omega (arith, most));
       claimed = part_left is_read (are_reading work.jobs) rows work.dirty work.debris work.jobs part new.condemned ending.apart gone (λ stamp off. cases stamp (still stamp off)) ending.claimed;
     }
 
@@ -244,6 +255,7 @@ kept_ended next number job out how book work apart runs kept =
       same = refl;
       apart = apart;
       base = drop_base next book.rows work.jobs work.dirty (map path_of_debris work.debris) (is_other_job number) kept.base;
+      order = kept.order;
       claimed = λ x.
           let most = drop_claims number book.rows work.jobs work.dirty work.debris job runs kept.claimed x in
           omega (arith, most);

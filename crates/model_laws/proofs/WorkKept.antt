@@ -1,6 +1,6 @@
 -- A work state keeps its rules: after each entry whose work comes in order, after a history, and from an opening that is right.
-use Rattle.std.proofs.Common.{◌≡◌, ℕ, ◌+◌, true, ◌&&◌, List, [], ◌∷◌, ◌++◌, Option, Some, None, inl, inr, refl, sym, ap, subst, ◌∙◌, map, Contains, arith}
-use Rattle.std.specs.List.{list_any}
+use Rattle.std.proofs.Common.{◌≡◌, ◌≤◌, ℕ, ◌+◌, Bool, true, ◌&&◌, List, [], ◌∷◌, ◌++◌, Option, Some, None, inl, inr, refl, sym, ap, ap₂, subst, ◌∙◌, map, Contains, arith}
+use Rattle.std.specs.List.{list_all, list_any}
 use Rattle.mat_path.specs.Covering.{covering}
 use Rattle.mat_path.proofs.CoveringLemmas.{covering-append}
 use Rattle.mat_path.proofs.CoveringRows.{covering_rows-filter}
@@ -18,14 +18,16 @@ use Rattle.mat_model.specs.Gate.{Served}
 use Rattle.mat_model.specs.History.{Point, after, after_all, answer, answer_done, begin_with, book_of, is_keeper, next_number, opened, point_of, recorded_as, refusal_note, work_after}
 use Rattle.mat_model.specs.Kept.{overlaps_kept}
 use Rattle.mat_model.specs.Legal.{ComesInOrder, IsEach, IsInOrder}
-use Rattle.mat_model.specs.Openings.{IsOpening, opening_debris, path_of_row, put_strays, stray_debris}
-use Rattle.mat_model.specs.Rows.{are_apart}
+use Rattle.mat_model.specs.Openings.{IsOpening, itself, opening_debris, path_of_row, put_strays, stray_debris}
+use Rattle.mat_tree.specs.Trees.{ascends_by, is_after_by}
+use Rattle.mat_model.specs.Rows.{are_apart, comes_before}
 use Rattle.mat_model.specs.WorkState.{Debris, Job, cleans_all, ended, first_task, idle_work, is_cleaning, path_of_debris, path_of_task, running, started, ways_after}
 use Rattle.model_laws.specs.Laws.{declares}
 use Rattle.model_laws.specs.RowRules.{AreStampedBelow}
 use Rattle.model_laws.specs.WorkRules.{IsWork, owns}
 use Rattle.model_laws.proofs.ApartLemmas.{history_apart}
 use Rattle.model_laws.proofs.BooksKept.{next_more}
+use Rattle.model_laws.proofs.DebrisOrder.{Ascends, put_apart}
 use Rattle.model_laws.proofs.FirstLemmas.{make_may_begin, wipe_may_begin}
 use Rattle.model_laws.proofs.RowCases.{either_served}
 use Rattle.model_laws.proofs.RowLemmas.{row_step}
@@ -139,6 +141,24 @@ stray-paths : (paths : List (List (List ℕ))) → map path_of_debris (map stray
 stray-paths [] = refl
 stray-paths (path ∷ paths) = ap (λ (ps : List (List (List ℕ))). path ∷ ps) (stray-paths paths)
 
+-- strays are put in order where all are apart
+strays_ascend : (paths : List (List (List ℕ))) (debris : List Debris) → Ascends debris →
+    ((x : List (List ℕ)) → covering x paths + covering x (map path_of_debris debris) ≤ 1) → Ascends (put_strays paths debris)
+strays_ascend [] debris up most = up
+strays_ascend (path ∷ paths) debris up most =
+    put_apart (stray_debris path) (put_strays paths debris) (strays_ascend paths debris up (λ x. let h = most x in omega (arith, h)))
+    (λ x. let h = most x in omega (arith, h, covering-strays x paths debris))
+
+-- and debris at some paths is in their order
+stray_order : (paths : List (List (List ℕ))) → ascends_by path_of_debris (map stray_debris paths) ≡ ascends_by itself paths
+stray_order [] = refl
+stray_order (path ∷ paths) = ap₂ (λ (s t : Bool). s && t) (after paths) (stray_order paths)
+  where
+    after : (others : List (List (List ℕ))) →
+        list_all (is_after_by path_of_debris path) (map stray_debris others) ≡ list_all (is_after_by itself path) others
+    after [] = refl
+    after (other ∷ others) = ap (λ (b : Bool). comes_before path other && b) (after others)
+
 -- nothing is among none
 none_among : {Y : Type 0} (y : Y) → Contains [] y → ⊥
 none_among y (k, within, at) = omega arith
@@ -153,6 +173,16 @@ opening_work opening right = record {
   jobs = λ job among. absurd (none_among job among);
   wipes = λ job other among. absurd (none_among job among);
   dirty = λ path among. absurd (none_among path among);
+  order = strays_ascend opening.lost (map stray_debris opening.strays) (stray_order opening.strays ∙ right.strays)
+      (λ x.
+      let free = right.free x in
+      omega (
+        arith,
+        free,
+        ap (λ (ps : List (List (List ℕ))). covering x ps) (stray-paths opening.strays),
+        covering-append x (opening.strays ++ opening.lost) (map path_of_row opening.rows),
+        covering-append x opening.strays opening.lost,
+      ));
   claims = λ x.
       let strays : covering x (map path_of_debris (opening_debris opening)) ≡ covering x opening.lost + covering x opening.strays =
       covering-strays x opening.lost (map stray_debris opening.strays)

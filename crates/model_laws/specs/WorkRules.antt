@@ -3,6 +3,7 @@ use Rattle.std.specs.Prelude.{◌≡◌, ◌<◌, ◌≤◌, ℕ, ◌==◌, Bool
 use Rattle.std.specs.List.{Contains, flat_map, list_any}
 use Rattle.std.specs.Option.{option_map_or}
 use Rattle.mat_path.specs.Covering.{covering}
+use Rattle.mat_tree.specs.Trees.{ascends_by}
 use Rattle.mat_model.specs.declared.book.Row.{Row}
 use Rattle.mat_model.specs.declared.entries.Task.{Task}
 use Rattle.mat_model.specs.declared.entries.Task.TheVariants as task
@@ -121,5 +122,7 @@ pub record IsWork (next : ℕ) (rows : List Row) (work : WorkState) : Type 0 whe
       job.task ≡ task.Wipe path → other.task ≡ task.Wipe path → job ≡ other
   -- each dirty path is that of a row that doesn't stand
   pub dirty : (path : List (List ℕ)) → Contains work.dirty path → list_any (lies_at path) rows ≡ true
+  -- debris ascends strictly by path
+  pub order : ascends_by path_of_debris work.debris ≡ true
   -- no path is claimed twice
   pub claims : (path : List (List ℕ)) → covering path (claims rows work) ≤ 1
