@@ -10,7 +10,7 @@ use Rattle.mat_model.specs.declared.book.Row.{Row}
 use Rattle.mat_model.specs.Rows.{are_apart, comes_before, is_apart, overlaps_row, put_row}
 
 -- an answer the other way round, where it is neither Less nor Equal
-turned_lt : (o : Ordering) → is_lt o ≡ false → (o ≡ Equal → ⊥) → is_lt (ordering_reverse o) ≡ true
+pub turned_lt : (o : Ordering) → is_lt o ≡ false → (o ≡ Equal → ⊥) → is_lt (ordering_reverse o) ≡ true
 turned_lt Less h differ = absurd cc
 turned_lt Equal h differ = absurd (differ refl)
 turned_lt Greater h differ = refl

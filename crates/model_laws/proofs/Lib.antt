@@ -45,3 +45,5 @@ pub mod WorkKept
 pub mod RunLemmas
 pub mod PreemptLemmas
 pub mod DebrisOrder
+pub mod KeptOrder
+pub mod KeptLemmas

@@ -1,5 +1,5 @@
 -- All that is counted at a point stays within the limits, where there was room for each entry and work came in order.
-use Rattle.mat_path.proofs.Elements.{contains_first, contains_more, filtered_contains}
+use Rattle.mat_path.proofs.Elements.{contains_first, contains_more}
 use Rattle.mat_path.proofs.SameNames.{same_names-refl}
 use Rattle.std.proofs.Common.{◌≡◌, ℕ, suc, ◌+◌, ◌≤◌, ◌==◌, nat_lt, Bool, true, false, not, ◌&&◌, List, [], ◌∷◌, ◌++◌, Option, Some, None, cond, refl, sym, ap, ap₂, subst, ◌∙◌, map, find, Contains, count_by, length, length-append, arith}
 use Rattle.std.specs.List.{filter, list_any}
@@ -14,7 +14,6 @@ use Rattle.mat_model.specs.declared.answers.Answer.TheVariants as answer
 use Rattle.mat_model.specs.declared.answers.FaultNote.{FaultNote}
 use Rattle.mat_model.specs.declared.answers.Limit.TheVariants as limit
 use Rattle.mat_model.specs.declared.answers.Recorded.{Recorded}
-use Rattle.mat_model.specs.declared.answers.Recorded.TheVariants as recorded
 use Rattle.mat_model.specs.declared.answers.Reply.{Reply}
 use Rattle.mat_model.specs.declared.answers.Reply.TheVariants as reply
 use Rattle.mat_model.specs.declared.book.Book.{Book}
@@ -43,13 +42,14 @@ use Rattle.mat_model.specs.Requests.{at_moment, serve}
 use Rattle.mat_model.specs.Room.{HasRoom, entries_for, full_event, full_served, held_bytes, held_for, is_alone, row_paths, spent, waits_past}
 use Rattle.mat_model.specs.Rows.{is_at_path, standing_row}
 use Rattle.mat_model.specs.Tickets.{answered_by, answered_by_any, is_open, waits_for, waits_for_any, with_answer}
-use Rattle.mat_model.specs.Work.{end_make, finish, is_declared, make_ended, rows_of_task}
+use Rattle.mat_model.specs.Work.{end_make, finish, is_declared, rows_of_task}
 use Rattle.mat_model.specs.WorkState.{Job, Lent, WayOf, WorkState, cleans_all, condemned_all, ended, ended_work, has_stamp, is_cleaning, is_held_way, is_job, is_other_job, made_work, path_of_task, put_debris, refused, returned, running, started, ways_after, way_of, wiped_work, work_asked}
 use Rattle.model_laws.specs.RoomRules.{IsRoomy}
 use Rattle.model_laws.proofs.BooksLists.{contains_any}
 use Rattle.model_laws.proofs.BooksRoom.{history_short, none_parts}
 use Rattle.model_laws.proofs.Changes.{standing-path, standing-stamp, standing-tree}
 use Rattle.model_laws.proofs.Elements.{found_contains, found_passes}
+use Rattle.model_laws.proofs.KeptOrder.{done_stores}
 use Rattle.model_laws.proofs.RoomCases.{Goes, asked_goes}
 use Rattle.model_laws.proofs.RoomLists.{alone_stored, any_mapped, count_fewer, fewer_filtered, one_less, sum_alike}
 use Rattle.model_laws.proofs.RowCases.{either_served, fault_note}
@@ -334,20 +334,11 @@ done_alone : (number : ℕ) (begun : Task) (out : Outcome) (how : Recorded) (boo
     filter (is_alone (finish number begun out how book).book.rows)
     (kept_done begun (finish number begun out how book).reply (finish number begun out how book).book.rows kept)
     ≡ filter (is_alone (finish number begun out how book).book.rows) kept
-done_alone number (task.Make path stamp) out how book kept = by (find (is_declared path stamp) book.rows) how
-  where
-    by : (o : Option Row) (was : Recorded) →
-        filter (is_alone (end_make number path out was book o).book.rows)
-        (kept_done (task.Make path stamp) (end_make number path out was book o).reply (end_make number path out was book o).book.rows kept)
-        ≡ filter (is_alone (end_make number path out was book o).book.rows) kept
-    by None was = refl
-    by (Some row) recorded.Kept =
-        let rows : List Row = (make_ended number path row out book).rows in
-        alone_stored rows (filter (is_declared path stamp) rows) kept (λ r among. (filtered_contains (is_declared path stamp) rows r among).0)
-    by (Some row) (recorded.NotKept note) = refl
-    by (Some row) recorded.NoMemory = refl
-    by (Some row) recorded.Nothing = refl
-done_alone number (task.Wipe path) out how book kept = refl
+done_alone number begun out how book kept =
+    done_stores
+    (λ (ks : List KeptRow). filter (is_alone (finish number begun out how book).book.rows) ks
+    ≡ filter (is_alone (finish number begun out how book).book.rows) kept)
+    number begun out how book kept refl (λ some within. alone_stored (finish number begun out how book).book.rows some kept within)
 
 -- the work state after the end of a job, but for its job
 fresh_keeps : (path : List (List ℕ)) (out : Outcome) (how : Recorded) (work : WorkState) → Keeps work (made_work path out (reply.Fresh how) work)

@@ -5,3 +5,4 @@ pub mod TicketRules
 pub mod RoomRules
 pub mod WorkRules
 pub mod RunRules
+pub mod KeptRules

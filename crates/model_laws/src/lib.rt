@@ -3,6 +3,7 @@
 
 mod book_laws;
 mod first_laws;
+mod kept_laws;
 mod laws;
 mod room_laws;
 mod row_laws;
@@ -16,6 +17,10 @@ pub use book_laws::{
     room_keeps_queue, serve_keeps_rules, somebody_is_live,
 };
 pub use first_laws::{first_make_may_begin, first_wipe_may_begin, nothing_first_is_drained};
+pub use kept_laws::{
+    history_keeps_kept_order, kept_row_was_recorded, kept_row_was_recorded_later,
+    opening_keeps_kept_order,
+};
 pub use laws::{
     answer_stays, finish_answers_truly, finish_keeps_apart, finish_keeps_standing,
     finish_keeps_tickets, first_make_answers, history_keeps_apart, history_keeps_gate,

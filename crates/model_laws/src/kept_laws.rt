@@ -1,0 +1,33 @@
+ghost use Rattle.std.specs.Prelude.{◌≡◌, ◌⊎◌, List};
+ghost use Rattle.std.specs.List.{Contains};
+ghost use Rattle.mat_model.specs.declared.entries.Entry.{Entry};
+ghost use Rattle.mat_model.specs.declared.opening.Opening.{Opening};
+ghost use Rattle.mat_model.specs.History.{Point, after_all, opened, point_of};
+ghost use Rattle.mat_model.specs.Kept.{KeptRow};
+ghost use Rattle.mat_model.specs.Openings.{IsOpening};
+ghost use Rattle.model_laws.specs.KeptRules.{KeptAscend, StaysKept, WasOpened, WasRecorded};
+
+/// Kept rows that ascend strictly by path do so behind any entries.
+pub fn history_keeps_kept_order()
+    ensures { (point : Point) (later : List Entry) → KeptAscend point.kept → KeptAscend (after_all point later).kept }
+{}
+
+/// From an opening that is right, the kept rows ascend strictly by path at each point of a history.
+pub fn opening_keeps_kept_order()
+    ensures { (opening : Opening) (history : List Entry) → IsOpening opening → KeptAscend (point_of opening history).kept }
+{}
+
+/// A row that is kept at a point of a history, from an opening that is right, is one of the opening or was recorded by an entry, with that path and
+/// tree; and no entry since has removed it, has begun a job at a path that overlaps its own, or has recorded a newer one at its path.
+pub fn kept_row_was_recorded()
+    ensures { (opening : Opening) (history : List Entry) (kept : KeptRow) →
+        IsOpening opening → Contains (point_of opening history).kept kept →
+        WasOpened opening history kept ⊎ WasRecorded (opened opening) history kept }
+{}
+
+/// Behind any entries, it was kept already or one of the further entries recorded it, and none since touched its path so.
+pub fn kept_row_was_recorded_later()
+    ensures { (point : Point) (later : List Entry) (kept : KeptRow) →
+        KeptAscend point.kept → Contains (after_all point later).kept kept →
+        StaysKept point later kept ⊎ WasRecorded point later kept }
+{}
