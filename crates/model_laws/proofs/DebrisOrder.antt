@@ -3,12 +3,12 @@ use Rattle.std.proofs.Common.{◌≡◌, ℕ, ◌+◌, ◌≤◌, Bool, true, fa
 use Rattle.std.specs.List.{filter, list_all, list_any}
 use Rattle.std.proofs.lemmas.Bool.{and_from, and_parts, or_parts}
 use Rattle.mat_path.specs.Covering.{covering}
-use Rattle.mat_path.specs.Names.{is_prefix, overlap, path_cmp}
+use Rattle.mat_path.specs.Names.{is_prefix, overlap}
 use Rattle.mat_path.proofs.CoveringLemmas.{covering-head}
 use Rattle.mat_path.proofs.PathLemmas.{overlap_comm}
 use Rattle.mat_tree.specs.Trees.{ascends_by, is_after_by}
 use Rattle.mat_model.specs.declared.book.Row.{Row}
-use Rattle.mat_model.specs.Openings.{path_of_row, put_strays, stray_debris}
+use Rattle.mat_model.specs.Openings.{path_of_row}
 use Rattle.mat_model.specs.Rows.{comes_before}
 use Rattle.mat_model.specs.WorkState.{Debris, add_debris, path_of_debris, put_debris}
 use Rattle.model_laws.proofs.Apart.{before-trans, before_other}

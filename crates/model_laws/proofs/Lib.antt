@@ -47,3 +47,5 @@ pub mod PreemptLemmas
 pub mod DebrisOrder
 pub mod KeptOrder
 pub mod KeptLemmas
+pub mod WaysAsked
+pub mod PlacedLemmas

@@ -1,16 +1,26 @@
 -- The rules of a work state: what is true of its jobs, its dirty paths, its debris and its ways, beside the rows, where work comes in order.
 use Rattle.std.specs.Prelude.{◌≡◌, ◌<◌, ◌≤◌, ℕ, ◌==◌, Bool, true, false, not, if◌then◌else◌, List, [], ◌∷◌, ◌++◌, map, filter, Option, Some, None}
-use Rattle.std.specs.List.{Contains, flat_map, list_any}
+use Rattle.std.specs.List.{Contains, flat_map, list_all, list_any}
 use Rattle.std.specs.Option.{option_map_or}
+use Rattle.mat_digest.specs.declared.digest.Digest.{Digest}
 use Rattle.mat_path.specs.Covering.{covering}
-use Rattle.mat_tree.specs.Trees.{ascends_by}
+use Rattle.mat_path.specs.Names.{is_path}
+use Rattle.mat_tree.specs.declared.flat.Flat.{Flat}
+use Rattle.mat_tree.specs.Trees.{ascends_by, file_tree, is_placed}
 use Rattle.mat_model.specs.declared.book.Row.{Row}
+use Rattle.mat_model.specs.declared.entries.Entry.{Entry}
+use Rattle.mat_model.specs.declared.entries.Event.{Event}
+use Rattle.mat_model.specs.declared.entries.Event.TheVariants as event
 use Rattle.mat_model.specs.declared.entries.Task.{Task}
 use Rattle.mat_model.specs.declared.entries.Task.TheVariants as task
+use Rattle.mat_model.specs.declared.requests.Asked.{Asked}
+use Rattle.mat_model.specs.declared.requests.Asked.TheVariants as asked
 use Rattle.mat_model.specs.Books.{are_ascending}
-use Rattle.mat_model.specs.Openings.{path_of_row}
+use Rattle.mat_model.specs.History.{Point}
+use Rattle.mat_model.specs.Legal.{IsAskable}
+use Rattle.mat_model.specs.Openings.{is_row_placed, path_of_row}
 use Rattle.mat_model.specs.Rows.{are_apart}
-use Rattle.mat_model.specs.WorkState.{Job, Lent, WorkState, is_dirty, lies_at, path_of_debris}
+use Rattle.mat_model.specs.WorkState.{Job, Lent, Way, WorkState, copied, held, is_dirty, is_held_way, lies_at, path_of_debris, store, way_of}
 use Rattle.model_laws.specs.RowRules.{AreStampedBelow}
 
 -- ---- whose the parts of the disk are
@@ -126,3 +136,49 @@ pub record IsWork (next : ℕ) (rows : List Row) (work : WorkState) : Type 0 whe
   pub order : ascends_by path_of_debris work.debris ≡ true
   -- no path is claimed twice
   pub claims : (path : List (List ℕ)) → covering path (claims rows work) ≤ 1
+
+-- ---- trees and ways
+
+-- a tree is that of a file that isn't executable
+abbrev pub IsPlain : List Flat → Type 0
+IsPlain tree = (digest : Digest) × (tree ≡ file_tree digest false)
+
+-- where a way holds the bytes of a row, the row's tree is a plain file's
+abbrev pub IsHeldPlain : Way → List Flat → Type 0
+IsHeldPlain way tree = is_held_way way ≡ true → IsPlain tree
+
+-- where a way reads another row's part, each node of the tree lies at a path there
+abbrev pub IsReadAtPaths : Way → List Flat → Type 0
+IsReadAtPaths held tree = Unit {0}
+IsReadAtPaths store tree = Unit {0}
+IsReadAtPaths (copied source rest stamp holds) tree = list_all (is_placed (source ++ rest)) tree ≡ true
+
+-- each node of the tree of a part that is lent, if one is, is at a path
+abbrev pub IsPartPlaced : Option Lent → Type 0
+IsPartPlaced None = Unit {0}
+IsPartPlaced (Some lent) = list_all (is_placed lent.path) lent.tree ≡ true
+
+-- the trees of some rows, and of the parts that jobs read, are at paths, and so is what ways read
+pub record IsPlaced (rows : List Row) (work : WorkState) : Type 0 where
+  -- each node of a row's tree is at a path
+  pub reach : (row : Row) → Contains rows row → is_row_placed row ≡ true
+  -- and each node of a part's that a job reads
+  pub lent : (job : Job) → Contains work.jobs job → IsPartPlaced job.lent
+  -- a row whose bytes are held is a plain file
+  pub held : (row : Row) → Contains rows row → IsHeldPlain (way_of row.stamp work.ways) row.tree
+  -- each node of a copied row's tree is at a path below where it was copied from
+  pub copied : (row : Row) → Contains rows row → IsReadAtPaths (way_of row.stamp work.ways) row.tree
+
+-- a write is at a path: of its file alone no rule of what may be asked says so
+abbrev pub WritesAt : Asked → Type 0
+WritesAt (asked.Write command path sum) = is_path path ≡ true
+WritesAt _ = Unit {0}
+
+abbrev pub WritesAtPath : Event → Type 0
+WritesAtPath (event.Asked request) = WritesAt request
+WritesAtPath (event.Begin begun) = Unit {0}
+WritesAtPath (event.Done job out) = Unit {0}
+
+-- an entry asks for what may be asked, at paths
+abbrev pub AsksAtPaths : Point → Entry → Type 0
+AsksAtPaths point entry = IsAskable point entry × WritesAtPath entry.event

@@ -42,4 +42,7 @@ pub use ticket_laws::{
     made_row_answers_below, open_ticket_is_below_bare_path, overlapping_rows_answer_below,
     removed_rows_answer_below, replaced_rows_answer_below, row_above_open_ticket_covers,
 };
-pub use work_laws::{entry_keeps_work, history_keeps_work, opening_keeps_work};
+pub use work_laws::{
+    entry_keeps_placed, entry_keeps_work, history_keeps_placed, history_keeps_work,
+    opening_keeps_placed, opening_keeps_work,
+};

@@ -1,10 +1,12 @@
-ghost use Rattle.std.specs.Prelude.{List};
+ghost use Rattle.std.specs.Prelude.{◌≡◌, List, true};
 ghost use Rattle.mat_model.specs.declared.entries.Entry.{Entry};
 ghost use Rattle.mat_model.specs.declared.opening.Opening.{Opening};
 ghost use Rattle.mat_model.specs.History.{Point, after, after_all, book_of, next_number, opened, point_of};
 ghost use Rattle.mat_model.specs.Legal.{ComesInOrder, IsEach};
 ghost use Rattle.mat_model.specs.Openings.{IsOpening};
-ghost use Rattle.model_laws.specs.WorkRules.{IsWork};
+ghost use Rattle.mat_model.specs.Rows.{are_apart};
+ghost use Rattle.model_laws.specs.RowRules.{AreStampedBelow};
+ghost use Rattle.model_laws.specs.WorkRules.{AsksAtPaths, IsPlaced, IsWork};
 
 /// An entry whose work comes in order keeps the rules of a work state.
 pub fn entry_keeps_work()
@@ -24,4 +26,24 @@ pub fn history_keeps_work()
 pub fn opening_keeps_work()
     ensures { (opening : Opening) (history : List Entry) → IsOpening opening → IsEach ComesInOrder (opened opening) history →
         IsWork (next_number (point_of opening history)) (book_of opening history).rows (point_of opening history).work }
+{}
+
+/// An entry that asks at paths keeps trees and ways at paths, and held rows plain files, whatever else it does.
+pub fn entry_keeps_placed()
+    ensures { (point : Point) (entry : Entry) → are_apart point.book.rows ≡ true → AreStampedBelow (next_number point) point.book.rows →
+        AsksAtPaths point entry → IsPlaced point.book.rows point.work →
+        IsPlaced (after point entry).book.rows (after point entry).work }
+{}
+
+/// Behind any point, entries that ask at paths do so too.
+pub fn history_keeps_placed()
+    ensures { (point : Point) (later : List Entry) → are_apart point.book.rows ≡ true → AreStampedBelow (next_number point) point.book.rows →
+        IsEach AsksAtPaths point later → IsPlaced point.book.rows point.work →
+        IsPlaced (after_all point later).book.rows (after_all point later).work }
+{}
+
+/// From an opening that is right, every history that asks at paths leads to trees and ways that lie at paths.
+pub fn opening_keeps_placed()
+    ensures { (opening : Opening) (history : List Entry) → IsOpening opening → IsEach AsksAtPaths (opened opening) history →
+        IsPlaced (book_of opening history).rows (point_of opening history).work }
 {}
