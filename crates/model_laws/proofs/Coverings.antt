@@ -1,12 +1,13 @@
 -- How often a path is covered by the paths of rows, of debris and of jobs.
-use Rattle.std.proofs.Common.{◌≡◌, ℕ, ◌+◌, ◌≤◌, Bool, true, false, not, cond, inl, inr, List, [], ◌∷◌, ◌++◌, refl, sym, ap, ap₂, ◌∙◌, map, find, Some, zero, suc, Contains, arith}
-use Rattle.std.specs.List.{filter, list_all}
+use Rattle.std.proofs.Common.{◌≡◌, ℕ, ◌+◌, ◌≤◌, Bool, true, false, not, cond, inl, inr, List, [], ◌∷◌, ◌++◌, refl, sym, ap, ap₂, subst, ◌∙◌, map, find, Some, zero, suc, Contains, arith}
+use Rattle.std.specs.List.{filter, flat_map, list_all}
 use Rattle.std.proofs.lemmas.Bool.{and_parts}
+use Rattle.std.proofs.lemmas.List.Elements.{Contains-append_cases, Contains-append_left, Contains-append_right}
 use Rattle.mat_path.specs.Covering.{covering}
 use Rattle.mat_path.specs.Names.{is_prefix, overlap}
 use Rattle.mat_path.proofs.CoveringLemmas.{covered_below, covered_by, covering-append, covering_none}
 use Rattle.mat_path.proofs.CoveringRows.{among_rows, covering_rows-filter, row_among}
-use Rattle.mat_path.proofs.Elements.{contains_cases, mapped_contains}
+use Rattle.mat_path.proofs.Elements.{contains_cases, contains_first, contains_more, mapped_contains}
 use Rattle.mat_path.proofs.Overlaps.{apart_of_prefixes}
 use Rattle.mat_model.specs.declared.book.Row.{Row}
 use Rattle.mat_model.specs.Openings.{path_of_row}
@@ -139,13 +140,47 @@ covering-ended gone left opposite x (first ∷ jobs) job found =
         omega (arith, e f, covering-append x (claimed_by_job first) (claimed_by_jobs (filter left jobs)), covering-append x (claimed_by_job first) (claimed_by_jobs jobs))
     by false false o f e = absurd cc
 
--- a claim of one of some jobs is one of all
-pub covering_of_job : (x : List (List ℕ)) (jobs : List Job) (job : Job) → Contains jobs job → covering x (claimed_by_job job) ≤ covering x (claimed_by_jobs jobs)
-covering_of_job x [] job (k, within, at) = absurd (omega arith)
-covering_of_job x (first ∷ jobs) job among =
-    elim (contains_cases first jobs job among) [
-      | inl same ↦ omega (arith, covering-append x (claimed_by_job first) (claimed_by_jobs jobs), ap (λ (j : Job). covering x (claimed_by_job j)) same)
-      | inr later ↦ omega (arith, covering-append x (claimed_by_job first) (claimed_by_jobs jobs), covering_of_job x jobs job later)
+-- what one of some names is named by all
+pub covering_within : {Y : Type 0} (f : Y → List (List (List ℕ))) (x : List (List ℕ)) (ys : List Y) (y : Y) → Contains ys y →
+    covering x (f y) ≤ covering x (flat_map f ys)
+covering_within f x [] y (k, within, at) = absurd (omega arith)
+covering_within f x (first ∷ ys) y among =
+    elim (contains_cases first ys y among) [
+      | inl same ↦ omega (arith, covering-append x (f first) (flat_map f ys), ap (λ z. covering x (f z)) same)
+      | inr later ↦ omega (arith, covering-append x (f first) (flat_map f ys), covering_within f x ys y later)
+    ]
+
+-- what those that pass a test name and what the others do count together
+pub covering_named-split : {Y : Type 0} (f : Y → List (List (List ℕ))) (test : Y → Bool) (x : List (List ℕ)) (ys : List Y) →
+    covering x (flat_map f ys) ≡ covering x (flat_map f (filter test ys)) + covering x (flat_map f (filter (λ y. not (test y)) ys))
+covering_named-split f test x [] = omega arith
+covering_named-split f test x (y ∷ ys) = by (test y) (covering_named-split f test x ys)
+  where
+    by : (b : Bool) →
+        covering x (flat_map f ys) ≡ covering x (flat_map f (filter test ys)) + covering x (flat_map f (filter (λ z. not (test z)) ys)) →
+        covering x (f y ++ flat_map f ys)
+        ≡ covering x (flat_map f (cond b (y ∷ filter test ys) (filter test ys)))
+        + covering x (flat_map f (cond (not b) (y ∷ filter (λ z. not (test z)) ys) (filter (λ z. not (test z)) ys)))
+    by true e = omega (arith, e, covering-append x (f y) (flat_map f ys), covering-append x (f y) (flat_map f (filter test ys)))
+    by false e = omega (arith, e, covering-append x (f y) (flat_map f ys), covering-append x (f y) (flat_map f (filter (λ z. not (test z)) ys)))
+
+-- a path that one of some names is named by all, and the other way round
+pub named_among : {Y : Type 0} (f : Y → List (List (List ℕ))) (ys : List Y) (y : Y) (p : List (List ℕ)) → Contains ys y → Contains (f y) p →
+    Contains (flat_map f ys) p
+named_among f [] y p (k, within, at) named = absurd (omega arith)
+named_among f (first ∷ ys) y p among named =
+    elim (contains_cases first ys y among) [
+      | inl same ↦ Contains-append_left (f first) (flat_map f ys) p (subst (λ z. Contains (f z) p) (sym same) named)
+      | inr later ↦ Contains-append_right (f first) (flat_map f ys) p (named_among f ys y p later named)
+    ]
+
+pub among_named : {Y : Type 0} (f : Y → List (List (List ℕ))) (ys : List Y) (p : List (List ℕ)) → Contains (flat_map f ys) p →
+    (y : Y) × Contains ys y × Contains (f y) p
+among_named f [] p (k, within, at) = absurd (omega arith)
+among_named f (first ∷ ys) p among =
+    elim (Contains-append_cases (f first) (flat_map f ys) p among) [
+      | inl here ↦ (first, contains_first first ys, here)
+      | inr later ↦ let (y, within, named) = among_named f ys p later in (y, contains_more first ys y within, named)
     ]
 
 -- ---- all claims

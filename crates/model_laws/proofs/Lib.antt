@@ -49,3 +49,4 @@ pub mod KeptOrder
 pub mod KeptLemmas
 pub mod WaysAsked
 pub mod PlacedLemmas
+pub mod ClaimLemmas

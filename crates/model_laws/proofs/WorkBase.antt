@@ -131,6 +131,17 @@ ascending_filter test (first ∷ jobs) up =
           | false ↦ all_filter others parts.1
         ]
 
+-- of jobs whose numbers ascend the first has the least
+pub number_after : (one : Job) (others : List Job) (z : Job) → list_all (nat_lt one.number) (map number_of_job others) ≡ true → Contains others z →
+    one.number < z.number
+number_after one [] z all (k, within, at) = absurd (omega arith)
+number_after one (next ∷ others) z all within =
+    let parts = and_parts (nat_lt one.number next.number) (list_all (nat_lt one.number) (map number_of_job others)) all in
+    elim (contains_cases next others z within) [
+      | inl is ↦ subst (λ (j : Job). one.number < j.number) is (let h = parts.0 in grind (arith, nat_tests, h))
+      | inr rest ↦ number_after one others z parts.1 rest
+    ]
+
 -- two jobs of one number are one
 pub same_job : (jobs : List Job) (job other : Job) → are_ascending (map number_of_job jobs) ≡ true → Contains jobs job → Contains jobs other →
     job.number ≡ other.number → job ≡ other
@@ -141,25 +152,16 @@ same_job (first ∷ jobs) job other up among also same =
       | inl here ↦ elim (contains_cases first jobs other also) [
         | inl too ↦ sym here ∙ too
         | inr later ↦
-            let less = after first jobs other parts.0 later in
+            let less = number_after first jobs other parts.0 later in
             let is : first.number ≡ job.number = ap (λ (j : Job). j.number) here in absurd (omega (arith, less, is, same))
       ]
       | inr more ↦ elim (contains_cases first jobs other also) [
         | inl too ↦
-            let less = after first jobs job parts.0 more in
+            let less = number_after first jobs job parts.0 more in
             let is : first.number ≡ other.number = ap (λ (j : Job). j.number) too in absurd (omega (arith, less, is, same))
         | inr later ↦ same_job jobs job other parts.1 more later same
       ]
     ]
-  where
-    after : (one : Job) (others : List Job) (z : Job) → list_all (nat_lt one.number) (map number_of_job others) ≡ true → Contains others z → one.number < z.number
-    after one [] z all (k, within, at) = absurd (omega arith)
-    after one (next ∷ others) z all within =
-        let parts = and_parts (nat_lt one.number next.number) (list_all (nat_lt one.number) (map number_of_job others)) all in
-        elim (contains_cases next others z within) [
-          | inl is ↦ subst (λ (j : Job). one.number < j.number) is (let h = parts.0 in grind (arith, nat_tests, h))
-          | inr rest ↦ after one others z parts.1 rest
-        ]
 
 -- ---- rows step
 

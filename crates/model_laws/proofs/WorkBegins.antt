@@ -98,7 +98,7 @@ add_keeps condemned (row ∷ rows) debris path among =
     add_keeps condemned rows (put_debris new debris) path (put_keeps new debris path among)
 
 -- a removed row that leaves debris owned its part
-leaves_owned : (next : ℕ) (rows : List Row) (work : WorkState) (row : Row) → Kept next rows work → Contains rows row → leaves_debris work row ≡ true →
+pub leaves_owned : (next : ℕ) (rows : List Row) (work : WorkState) (row : Row) → Kept next rows work → Contains rows row → leaves_debris work row ≡ true →
     owns_by (are_reading work.jobs) work.dirty row ≡ true
 leaves_owned next rows work row kept among leaves =
     let parts = and_parts (row.stands || is_dirty work.dirty row.path) (not (is_lent row.path work.jobs)) leaves in

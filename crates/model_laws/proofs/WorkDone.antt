@@ -23,7 +23,7 @@ use Rattle.model_laws.specs.WorkRules.{IsJob, IsLentBy, IsMaking, are_reading, c
 use Rattle.std.specs.Option.{option_map_or}
 use Rattle.model_laws.proofs.Apart.{apart-map}
 use Rattle.model_laws.proofs.Changes.{standing-path}
-use Rattle.model_laws.proofs.Coverings.{covering_of_job, paths-map, row_covers}
+use Rattle.model_laws.proofs.Coverings.{covering_within, paths-map, row_covers}
 use Rattle.model_laws.proofs.DebrisOrder.{Ascends, ascends-map, filter_ascends, put_apart}
 use Rattle.model_laws.proofs.Elements.{found_contains, found_passes}
 use Rattle.model_laws.proofs.WorkBase.{Base, HasLying, lying_row}
@@ -55,7 +55,7 @@ make_alone is_read path more rows dirty debris jobs claimed job among other stam
     let one : ◌≡◌ {A = ℕ} (cond (is_prefix other path) 1 0) 1 = ap {B = ℕ} (λ (b : Bool). cond b 1 0) here in
     let too : ◌≡◌ {A = ℕ} (cond (is_prefix path path) 1 0) 1 = ap {B = ℕ} (λ (b : Bool). cond b 1 0) (prefix-refl path) in
     let most = claimed path in
-    omega (arith, most, mine, one, too, covering_of_job path jobs job among)
+    omega (arith, most, mine, one, too, covering_within claimed_by_job path jobs job among)
 
 -- and its path isn't dirty
 make_clean : (is_read : ℕ → Bool) (next : ℕ) (path : List (List ℕ)) (more : List (List (List ℕ))) (rows : List Row) (dirty : List (List (List ℕ))) (debris : List Debris)

@@ -1,5 +1,5 @@
 -- The rules of a work state: what is true of its jobs, its dirty paths, its debris and its ways, beside the rows, where work comes in order.
-use Rattle.std.specs.Prelude.{◌≡◌, ◌<◌, ◌≤◌, ℕ, ◌==◌, Bool, true, false, not, if◌then◌else◌, List, [], ◌∷◌, ◌++◌, map, filter, Option, Some, None}
+use Rattle.std.specs.Prelude.{◌≡◌, ◌<◌, ◌≤◌, ℕ, ◌==◌, ◌||◌, Bool, true, false, not, if◌then◌else◌, List, [], ◌∷◌, ◌++◌, map, filter, Option, Some, None}
 use Rattle.std.specs.List.{Contains, flat_map, list_all, list_any}
 use Rattle.std.specs.Option.{option_map_or}
 use Rattle.mat_digest.specs.declared.digest.Digest.{Digest}
@@ -20,7 +20,7 @@ use Rattle.mat_model.specs.History.{Point}
 use Rattle.mat_model.specs.Legal.{IsAskable}
 use Rattle.mat_model.specs.Openings.{is_row_placed, path_of_row}
 use Rattle.mat_model.specs.Rows.{are_apart}
-use Rattle.mat_model.specs.WorkState.{Job, Lent, Way, WorkState, copied, held, is_dirty, is_held_way, lies_at, path_of_debris, store, way_of}
+use Rattle.mat_model.specs.WorkState.{Job, Lent, Way, WorkState, copied, held, is_dirty, is_held_way, lies_at, path_of_debris, path_of_task, store, way_of}
 use Rattle.model_laws.specs.RowRules.{AreStampedBelow}
 
 -- ---- whose the parts of the disk are
@@ -182,3 +182,24 @@ WritesAtPath (event.Done job out) = Unit {0}
 -- an entry asks for what may be asked, at paths
 abbrev pub AsksAtPaths : Point → Entry → Type 0
 AsksAtPaths point entry = IsAskable point entry × WritesAtPath entry.event
+
+-- ---- loans
+
+-- the paths that are out for a job: that of its task, and that of the part that it reads
+abbrev pub loans_of : Job → List (List (List ℕ))
+loans_of job = path_of_task job.task ∷ claimed_by_part job.lent
+
+-- the paths that are out for some jobs
+abbrev pub loans : List Job → List (List (List ℕ))
+loans jobs = flat_map loans_of jobs
+
+-- a path is that of the part that a job reads of a row
+pub record IsReadOf (row : Row) (job : Job) (loan : List (List ℕ)) : Type 0 where
+  pub part : Lent
+  pub lent : job.lent ≡ Some part
+  pub path : loan ≡ row.path
+  pub stamp : part.stamp ≡ row.stamp
+
+-- a row stands, or what is at its path is dirty
+abbrev pub is_on_disk : WorkState → Row → Bool
+is_on_disk work row = row.stands || is_dirty work.dirty row.path

@@ -2,6 +2,7 @@
 #![tactic(auto)]
 
 mod book_laws;
+mod claim_laws;
 mod first_laws;
 mod kept_laws;
 mod laws;
@@ -15,6 +16,11 @@ pub use book_laws::{
     asker_stays, finish_keeps_rules, front_waits_rightly, history_keeps_rules, idle_keeps_rules,
     open_ticket_gives_work, open_ticket_waits, opening_keeps_rules, refuse_keeps_rules,
     room_keeps_queue, serve_keeps_rules, somebody_is_live,
+};
+pub use claim_laws::{
+    debris_covers_once, debris_meets_own_wipe, loans_are_apart, loans_cover_once,
+    read_part_is_apart, removed_row_meets_no_debris, removed_row_meets_no_loan,
+    returned_part_meets_no_debris, row_meets_no_debris, row_meets_own_loan,
 };
 pub use first_laws::{first_make_may_begin, first_wipe_may_begin, nothing_first_is_drained};
 pub use kept_laws::{
