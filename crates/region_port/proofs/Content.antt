@@ -1,17 +1,18 @@
 -- What a list of entries has at each path, with one more, or with those of one part alone.
 use Rattle.mat_path.proofs.Elements.{filter_all}
 use Rattle.mat_path.proofs.PathLemmas.{prefix-append}
-use Rattle.mat_path.proofs.SameNames.{is_prefix-Decides, same_names-Decides, same_names-behind, same_names-eq, same_names-sym}
+use Rattle.mat_path.proofs.SameNames.{is_prefix-Decides, same_names-Decides, same_names-behind, same_names-eq, same_names-refl, same_names-sym}
 use Rattle.std.proofs.Common.{◌≡◌, ℕ, Bool, true, false, cond, not, List, [], ◌∷◌, ◌++◌, length, drop, refl, ap, sym, ◌∙◌, ◌<◌, suc, take}
 use Rattle.std.specs.Prelude.{Option, Some, None}
 use Rattle.std.specs.List.{filter, list_all, remove, slice_get}
-use Rattle.std.specs.Option.{option_map, option_or}
+use Rattle.std.specs.Option.{ForSome, option_map, option_or}
+use mathlib.Core.Bool.{true≢false}
 use Rattle.std.proofs.Math.Seq.{drop-cons}
 use Rattle.std.proofs.lemmas.List.{take-append-drop}
-use Rattle.std.proofs.lemmas.Option.{get_or_from_slice_get}
-use Rattle.region_port.specs.Calls.{appended, with_more}
+use Rattle.std.proofs.lemmas.Option.{get_or_from_slice_get, none-some, same_Some}
+use Rattle.region_port.specs.Calls.{appended, is_file, with_more}
 use Rattle.mat_path.specs.Names.{same_names, is_prefix}
-use Rattle.mat_tree.specs.Parts.{Node, Part, below, without, with_node, replaced}
+use Rattle.mat_tree.specs.Parts.{Node, Part, file, folder, link, below, without, with_node, replaced}
 use Rattle.region_port.specs.declared.entry.DiskNode.{DiskNode}
 use Rattle.region_port.specs.Entries.{latest, content_of, node_kept, node_of, is_entry_at, path_of_entry, is_within, is_outside}
 use Rattle.region_port.specs.declared.entry.Entry.{Entry}
@@ -132,3 +133,25 @@ appended-with rel more node part e =
     let each : (q : List (List ℕ)) → with_node rel (with_more more node) part q ≡ appended rel more part q =
     λ q. ap (λ o. cond (same_names q rel) o (part q)) (sym (ap (option_map (with_more more)) e)) in
     λ i q. each q i
+
+-- where a put of a file was done, the file may be appended to
+pub put_allows_append : (rel : List (List ℕ)) (bytes : List ℕ) (exec : Bool) (before now : Option Part) → now ≡ option_map (with_node rel (file bytes exec)) before → ForSome now (λ part. is_file (part rel) ≡ true)
+put_allows_append rel bytes exec None now e part k = absurd (none-some part (sym e ∙ k))
+put_allows_append rel bytes exec (Some old) now e part k =
+    ap (λ (p : Part). is_file (p rel)) (sym (same_Some (with_node rel (file bytes exec) old) part (sym e ∙ k)))
+    ∙ ap (λ b. is_file (cond b (Some (file bytes exec)) (old rel))) (same_names-refl rel)
+
+-- and where an append was done, it may be appended to again
+pub append_allows_append : (rel : List (List ℕ)) (more : List ℕ) (before now : Option Part) → ForSome before (λ part. is_file (part rel) ≡ true) → now ≡ option_map (appended rel more) before
+    → ForSome now (λ part. is_file (part rel) ≡ true)
+append_allows_append rel more None now is e part k = absurd (none-some part (sym e ∙ k))
+append_allows_append rel more (Some old) now is e part k =
+    ap (λ (p : Part). is_file (p rel)) (sym (same_Some (appended rel more old) part (sym e ∙ k)))
+    ∙ ap (λ b. is_file (cond b (option_map (with_more more) (old rel)) (old rel))) (same_names-refl rel)
+    ∙ stays (old rel) (is old refl)
+  where
+    stays : (o : Option Node) → is_file o ≡ true → is_file (option_map (with_more more) o) ≡ true
+    stays None is = absurd (true≢false (sym is))
+    stays (Some folder) is = absurd (true≢false (sym is))
+    stays (Some (file bytes exec)) is = refl
+    stays (Some (link target)) is = absurd (true≢false (sym is))

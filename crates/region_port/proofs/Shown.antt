@@ -1,11 +1,12 @@
 -- Lists of nodes, one entry more.
 use Rattle.mat_path.proofs.JoinLemmas.{joined-tail}
-use Rattle.mat_path.proofs.SameNames.{is_prefix-Decides, same_names-Decides, same_names-sym}
+use Rattle.mat_path.proofs.Elements.{contains_cases, contains_first, contains_more}
+use Rattle.mat_path.proofs.SameNames.{is_prefix-Decides, same_names-Decides, same_names-refl, same_names-sym}
 use Rattle.mat_tree.proofs.Ascending.{after_head}
-use Rattle.std.proofs.Common.{◌≡◌, ℕ, ◌+◌, ◌≤◌, Bool, true, false, ◌&&◌, cond, List, [], ◌∷◌, ◌++◌, length, drop, map, refl, ap, subst, sym, ◌∙◌, arith, append_assoc, length-append, Bor, take, get_or, ◌<◌}
+use Rattle.std.proofs.Common.{◌≡◌, ℕ, ◌+◌, ◌≤◌, Bool, true, false, ◌&&◌, cond, List, [], ◌∷◌, ◌++◌, length, drop, map, refl, ap, subst, sym, ◌∙◌, inl, inr, Contains, Less, is_eq, arith, append_assoc, length-append, Bor, take, get_or, ◌<◌}
 use Rattle.std.specs.Prelude.{Option, Some, None, nat_le, Result, Ok, Err, IfOk}
 use Rattle.std.proofs.lemmas.List.{take_more}
-use Rattle.std.specs.List.{find, list_all}
+use Rattle.std.specs.List.{AllByRecursion, find, list_all}
 use Rattle.std.specs.Option.{option_map, option_or}
 use Rattle.std.proofs.lemmas.List.Folds.{list_all-append}
 use mathlib.Core.Bool.{true≢false}
@@ -21,18 +22,31 @@ use Rattle.std.specs.Ordering.{is_lt}
 use Rattle.std.specs.List.Sorted.{IsStrictlySortedBy}
 use Rattle.mat_path.specs.Order.{same_names_ties}
 use Rattle.mat_path.specs.Names.{is_rel, is_name, joined, is_prefix, same_names, path_cmp, rest_below}
-use Rattle.mat_tree.specs.Parts.{below, declared_by, Node}
+use Rattle.mat_tree.specs.Parts.{below, declared_by, file, folder, link, Node, Part}
 use Rattle.mat_tree.specs.Trees.{ascends, is_after, is_at, what_at, what_of}
 use Rattle.mat_tree.specs.declared.flat.What.{What}
 use Rattle.region_port.specs.declared.entry.Entry.{Entry}
 use Rattle.region_port.specs.Entries.{content_of, node_of}
-use Rattle.region_port.specs.Listing.{HasMany, HasNodes, IsInOrder, most_nodes, flat_from, flats_of, form_at, form_of, form_seen, is_seen_at, rel_seen, seen_from, seen_of, shown}
+use Rattle.region_port.specs.Listing.{HasMany, HasNodes, HasTold, is_plain, is_plain_form, IsInOrder, most_nodes, flat_from, flats_of, form_at, form_of, form_seen, is_seen_at, rel_seen, seen_from, seen_of, shown}
 use Rattle.region_port.specs.declared.listed.Form.{Form}
 use Rattle.region_port.specs.declared.listed.Seen.{Seen}
 use Rattle.std.proofs.lemmas.List.{length-map}
 use Rattle.region_port.proofs.Latest.{option_or-none}
 use Rattle.region_port.specs.Lists.{all_of}
 use Rattle.region_port.proofs.Content.{content_of-push, content_of-append}
+
+-- nothing is among nothing
+none_contained : {X : Type 0} (x : X) → Contains [] x → ⊥
+none_contained x (k, within, at) = absurd (omega arith)
+
+-- what holds of each element holds of all
+all_pass : {X : Type 0} (test : X → Bool) (xs : List X) → ((x : X) → Contains xs x → test x ≡ true) → list_all test xs ≡ true
+all_pass test [] each = refl
+all_pass test (x ∷ xs) each = and_from (test x) (list_all test xs) (each x (contains_first x xs)) (all_pass test xs (λ y among. each y (contains_more x xs y among)))
+
+-- a lesser rel is another one
+less_differs : (p q : List (List ℕ)) → path_cmp p q ≡ Less → same_names p q ≡ false
+less_differs p q less = same_names_ties p q ∙ ap is_eq less
 
 joined-behind : (p q : List (List ℕ)) → length (joined q) ≤ length (joined (p ++ q))
 joined-behind [] q = omega arith
@@ -128,13 +142,49 @@ pub has_nodes-seen : (path : List (List ℕ)) (entries : List Entry) (pairs : Li
     → ((rel : List (List ℕ)) → lookup (is_at_key (path_cmp rel)) pairs ≡ option_or (shown form_of path entries rel) None) → HasNodes (below path (content_of entries)) (seen_of pairs)
 has_nodes-seen path entries pairs has rel = sym (form_at-seen pairs rel ∙ has rel ∙ option_or-none (shown form_of path entries rel))
 
+-- in a list in order a node is what is found at its rel
+form_at-own : (nodes : List Seen) → IsInOrder nodes → (node : Seen) → Contains nodes node → form_at nodes node.rel ≡ Some node.what
+unfolding IsStrictlySortedBy
+form_at-own [] s node among = absurd (none_contained node among)
+form_at-own (x ∷ xs) s node among =
+    elim (contains_cases x xs node among) [
+      | inl here ↦ ap (λ b. option_map form_seen (cond b (Some x) (find (is_seen_at node.rel) xs))) (ap (λ n. same_names n.rel node.rel) here ∙ same_names-refl node.rel) ∙ ap (λ n. Some n.what) here
+      | inr later ↦
+          ap (λ b. option_map form_seen (cond b (Some x) (find (is_seen_at node.rel) xs))) (less_differs x.rel node.rel (less_than_each x.rel xs node s.0 later))
+          ∙ form_at-own xs s.1 node later
+    ]
+  where
+    less_than_each : (rel : List (List ℕ)) (ys : List Seen) (n : Seen) → AllByRecursion (λ r. path_cmp rel r ≡ Less) (map rel_seen ys) → Contains ys n → path_cmp rel n.rel ≡ Less
+    less_than_each rel [] n all e = absurd (none_contained n e)
+    less_than_each rel (y ∷ ys) n all e =
+        elim (contains_cases y ys n e) [
+          | inl here ↦ ap (λ m. path_cmp rel m.rel) (sym here) ∙ all.0
+          | inr later ↦ less_than_each rel ys n all.1 later
+        ]
+
+-- so a list of a part's nodes has no strange one
+all_plain : (part : Part) (nodes : List Seen) → IsInOrder nodes → HasNodes part nodes → list_all is_plain nodes ≡ true
+all_plain part nodes s has = all_pass is_plain nodes (λ node among. by node.what (part node.rel) (has node.rel ∙ form_at-own nodes s node among))
+  where
+    plain : (n : Node) → is_plain_form (form_of n) ≡ true
+    plain folder = refl
+    plain (file bytes exec) = refl
+    plain (link target) = refl
+
+    by : (what : Form) (o : Option Node) → option_map form_of o ≡ Some what → is_plain_form what ≡ true
+    by what None e = absurd (none-some what e)
+    by what (Some n) e = ap is_plain_form (sym (same_Some (form_of n) what e)) ∙ plain n
+
 -- so that list is what a region answers
 pub lists-seen : (path : List (List ℕ)) (entries : List Entry) (pairs : List (List (List ℕ) × Form)) (nodes : List Seen) → nodes ≡ seen_of pairs → IsStrictlySortedBy path_cmp (keys_of pairs)
     → length pairs ≤ most_nodes → ((rel : List (List ℕ)) → lookup (is_at_key (path_cmp rel)) pairs ≡ option_or (shown form_of path entries rel) None)
-    → IsInOrder nodes × (length nodes ≤ most_nodes) × HasNodes (below path (content_of entries)) nodes
+    → IsInOrder nodes × (length nodes ≤ most_nodes) × HasTold (Some (below path (content_of entries))) nodes
 lists-seen path entries pairs nodes e s few has =
-    subst (λ nodes. IsInOrder nodes × (length nodes ≤ most_nodes) × HasNodes (below path (content_of entries)) nodes) (sym e)
-    (in_order-seen pairs s, omega (arith, length-map pairs seen_from), has_nodes-seen path entries pairs has)
+    subst (λ nodes. IsInOrder nodes × (length nodes ≤ most_nodes) × HasTold (Some (below path (content_of entries))) nodes) (sym e) (
+      in_order-seen pairs s,
+      omega (arith, length-map pairs seen_from),
+      (has_nodes-seen path entries pairs has, all_plain (below path (content_of entries)) (seen_of pairs) (in_order-seen pairs s) (has_nodes-seen path entries pairs has)),
+    )
 
 -- a longer list is why it answers that there are too many
 pub many-seen : (path : List (List ℕ)) (entries : List Entry) (pairs : List (List (List ℕ) × Form)) → IsStrictlySortedBy path_cmp (keys_of pairs)

@@ -292,3 +292,11 @@ candidates-append known before segment path =
     by (Some node) None false = refl
     by (Some node) (Some other) true = refl
     by (Some node) (Some other) false = refl
+
+-- one path alone covers none twice
+pub one_is_apart : (p q : List (List ℕ)) → covering q (p ∷ []) ≤ 1
+one_is_apart p q = by (is_prefix p q)
+  where
+    by : (b : Bool) → cond b 1 0 + 0 ≤ 1
+    by true = omega arith
+    by false = omega arith

@@ -1,6 +1,6 @@
 -- The nodes of a part as a list: what a region lists, and what a disk in memory shows below a path.
 use Rattle.std.specs.Prelude.{◌≡◌, ◌≤◌, ◌<◌, ℕ, Bool, true, false, List, [], ◌∷◌, length, map, Option, Some, None}
-use Rattle.std.specs.List.{find}
+use Rattle.std.specs.List.{find, list_all}
 use Rattle.std.specs.List.Sorted.{IsStrictlySortedBy}
 use Rattle.std.specs.Option.{option_map}
 use Rattle.mat_path.specs.Names.{path_cmp, same_names}
@@ -46,14 +46,24 @@ form_at nodes rel = option_map form_seen (find (is_seen_at rel) nodes)
 abbrev pub IsInOrder : List Seen → Type 0
 IsInOrder nodes = IsStrictlySortedBy path_cmp (map rel_seen nodes)
 
--- a list has just the nodes of a part; so it has nothing strange
+-- whether a listed node is no strange one
+abbrev pub is_plain_form : Form → Bool
+is_plain_form (form.File exec size) = true
+is_plain_form form.Dir = true
+is_plain_form (form.Link target) = true
+is_plain_form form.Strange = false
+
+abbrev pub is_plain : Seen → Bool
+is_plain node = is_plain_form node.what
+
+-- a list has just the nodes of a part
 abbrev pub HasNodes : Part → List Seen → Type 0
 HasNodes part nodes = (rel : List (List ℕ)) → option_map form_of (part rel) ≡ form_at nodes rel
 
--- just the nodes of a part, where that is told
+-- just the nodes of a part, and so none that is strange, where that is told
 abbrev pub HasTold : Option Part → List Seen → Type 0
 HasTold None nodes = Unit {0}
-HasTold (Some part) nodes = HasNodes part nodes
+HasTold (Some part) nodes = HasNodes part nodes × (list_all is_plain nodes ≡ true)
 
 -- a part has too many nodes for a list, where that is told
 abbrev pub HasMany : Option Part → Type 0

@@ -19,12 +19,12 @@ got_failed got.Absent = false
 got_failed got.Failed = true
 got_failed got.NoMemory = false
 
--- whether an answer has bytes
-abbrev pub has_bytes : Got → Bool
-has_bytes (got.Bytes bytes) = true
-has_bytes got.Absent = false
-has_bytes got.Failed = false
-has_bytes got.NoMemory = false
+-- whether an answer comes only where the rel leads to a path: bytes, or want of memory for them
+abbrev pub needs_path : Got → Bool
+needs_path (got.Bytes bytes) = true
+needs_path got.Absent = false
+needs_path got.Failed = false
+needs_path got.NoMemory = true
 
 -- at most so many bytes from an offset on: fewer only where the bytes end, and none past their end
 abbrev pub piece : ℕ → ℕ → List ℕ → List ℕ

@@ -1,5 +1,5 @@
 -- What a device that can be made to fail tells of its calls.
-use Rattle.std.specs.Prelude.{◌≡◌, ℕ, Bool, false, Option, Some, None}
+use Rattle.std.specs.Prelude.{◌≡◌, ℕ, Bool, true, false, Option, Some, None}
 use Rattle.mat_io.specs.Causes.{counted, risen}
 
 -- how many calls there were, up to the last number that 64 bits hold, and whether the next one is to fail
@@ -15,6 +15,10 @@ after_call watch = record { calls = risen watch.calls; armed = false }
 abbrev pub FailsSo : Option Watch → Bool → Type 0
 FailsSo None failed = Unit {0}
 FailsSo (Some watch) failed = failed ≡ watch.armed
+
+-- what it tells once it is armed
+abbrev pub when_armed : Watch → Watch
+when_armed watch = record { calls = watch.calls; armed = true }
 
 -- a device that nobody has called or armed yet
 abbrev pub uncalled : Watch

@@ -12,7 +12,7 @@ ghost use Rattle.region_port.specs.Crashes.{Crashes};
 ghost use Rattle.region_port.specs.Entries.{content_of, entered, joined_counts, no_counts, paths_of, rough_paths};
 ghost use Rattle.region_port.specs.Lists.{all_of};
 ghost use Rattle.region_port.specs.Strays.{Finds, strays_failed};
-ghost use Rattle.region_port.specs.Watches.{after_call, joined_watch, uncalled};
+ghost use Rattle.region_port.specs.Watches.{after_call, joined_watch, uncalled, when_armed};
 
 use crate::counts::Counts;
 use crate::crash::{Rest, crash_all};
@@ -189,7 +189,7 @@ impl Disk for MemDisk {
 }
 
 impl Arm for MemDisk {
-    ghost use Rattle.region_port.specs.Disks.{disk_calls, disk_content, disk_faults, disk_loans, disk_rough, is_disk_armed};
+    ghost use Rattle.region_port.specs.Disks.{disk_calls, disk_content, disk_faults, disk_loans, disk_rough, disk_watch, is_disk_armed};
 
     ghost armed = { is_disk_armed };
 
@@ -198,6 +198,7 @@ impl Arm for MemDisk {
     fn arm(&mut self)
         ensures armed { is_disk_armed self.new ≡ true }
         ensures calls { disk_calls self.new ≡ disk_calls self.old }
+        ensures watch { disk_watch self.new ≡ when_armed (disk_watch self.old) }
         ensures faults { disk_faults self.new ≡ disk_faults self.old }
         ensures content { disk_content self.new ≡ disk_content self.old }
         ensures lent { disk_loans self.new ≡ disk_loans self.old }

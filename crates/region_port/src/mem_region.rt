@@ -8,9 +8,9 @@ ghost use Rattle.mat_path.specs.Names.{is_path, is_prefix};
 ghost use Rattle.mat_tree.specs.Parts.{file, folder, link};
 ghost use Rattle.region_port.specs.Calls.{Appends, IfNotDone, Puts, Roughens, Syncs, Wipes, is_file, wants_memory};
 ghost use Rattle.region_port.specs.Listing.{Lists, list_failed};
-ghost use Rattle.region_port.specs.Reads.{IsWithin, Reads, got_failed, has_bytes};
+ghost use Rattle.region_port.specs.Reads.{IsWithin, Reads, got_failed, needs_path};
 ghost use Rattle.region_port.specs.Entries.{entered, is_entry_at, is_within, latest, node_kept, path_of_entry};
-ghost use Rattle.region_port.specs.Watches.{after_call};
+ghost use Rattle.region_port.specs.Watches.{after_call, when_armed};
 
 use crate::counts::Counts;
 use crate::entry::{DiskNode, Entry};
@@ -162,7 +162,7 @@ impl Region for MemRegion {
         ensures part { Some (part_of self.new) ≡ Some (part_of self.old) }
         ensures got { Reads rel.now at most (Some (part_of self.old)) result }
         ensures within { IsWithin most result }
-        ensures path { has_bytes result ≡ true → is_path (region_place self.old ++ rel.now) ≡ true }
+        ensures path { needs_path result ≡ true → is_path (region_place self.old ++ rel.now) ≡ true }
         ensures rough { rough_of self.new ≡ rough_of self.old }
         ensures cause { HasCause (region_faults self.old) (region_faults self.new) (got_failed result) }
         ensures watch { region_watch self.new ≡ after_call (region_watch self.old) }
@@ -272,7 +272,7 @@ impl MemRegion {
 }
 
 impl Arm for MemRegion {
-    ghost use Rattle.region_port.specs.Memory.{is_region_armed, part_of, region_calls, region_faults, region_place, rough_of};
+    ghost use Rattle.region_port.specs.Memory.{is_region_armed, part_of, region_calls, region_faults, region_place, region_watch, rough_of};
 
     ghost armed = { is_region_armed };
 
@@ -281,6 +281,7 @@ impl Arm for MemRegion {
     fn arm(&mut self)
         ensures armed { is_region_armed self.new ≡ true }
         ensures calls { region_calls self.new ≡ region_calls self.old }
+        ensures watch { region_watch self.new ≡ when_armed (region_watch self.old) }
         ensures place { region_place self.new ≡ region_place self.old }
         ensures same { (part_of self.new ≡ part_of self.old) × (rough_of self.new ≡ rough_of self.old) × (region_faults self.new ≡ region_faults self.old) }
     {

@@ -6,7 +6,7 @@ ghost use Rattle.mat_io.specs.Answers.{did_failed};
 ghost use Rattle.mat_io.specs.Causes.{HasCause};
 ghost use Rattle.mat_path.specs.Names.{is_path, overlap, same_names};
 ghost use Rattle.mat_tree.specs.Parts.{Part, file, folder, link, below, without};
-ghost use Rattle.region_port.specs.Reads.{IsWithin, Reads, got_failed, has_bytes};
+ghost use Rattle.region_port.specs.Reads.{IsWithin, Reads, got_failed, needs_path};
 ghost use Rattle.region_port.specs.Listing.{Lists, list_failed};
 ghost use Rattle.region_port.specs.Strays.{Finds, strays_failed};
 ghost use Rattle.region_port.specs.Watches.{FailsSo, Watch, after_call, joined_watch, newly_lent};
@@ -96,7 +96,7 @@ pub trait Region {
         ensures rough { rough self.new ≡ rough self.old }
         ensures got { Reads rel.now at most (part self.old) result }
         ensures within { IsWithin most result }
-        ensures path { has_bytes result ≡ true → is_path (place self.old ++ rel.now) ≡ true }
+        ensures path { needs_path result ≡ true → is_path (place self.old ++ rel.now) ≡ true }
         ensures cause { HasCause (fault_count self.old) (fault_count self.new) (got_failed result) }
         ensures watch { watch self.new ≡ option_map after_call (watch self.old) }
         ensures fails { FailsSo (watch self.old) (got_failed result) };

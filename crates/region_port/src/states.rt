@@ -3,7 +3,7 @@ ghost use Rattle.std.specs.Option.{ForSome, option_map};
 ghost use Rattle.mat_path.specs.Names.{is_path};
 ghost use Rattle.mat_tree.specs.Parts.{HasTree, bare};
 ghost use Rattle.region_port.specs.Calls.{nowhere};
-ghost use Rattle.region_port.specs.Reads.{IsWithin, Reads, got_failed, has_bytes};
+ghost use Rattle.region_port.specs.Reads.{IsWithin, Reads, got_failed, needs_path};
 ghost use Rattle.region_port.specs.Watches.{FailsSo, after_call};
 
 use crate::got::Got;
@@ -217,7 +217,7 @@ impl<R: Region> ReadLoan<R> {
         ensures rough { R.rough (loan_region self.new) ≡ R.rough (loan_region self.old) }
         ensures got { Reads rel.now at most (R.part (loan_region self.old)) result }
         ensures within { IsWithin most result }
-        ensures path { has_bytes result ≡ true → is_path (R.place (loan_region self.old) ++ rel.now) ≡ true }
+        ensures path { needs_path result ≡ true → is_path (R.place (loan_region self.old) ++ rel.now) ≡ true }
         ensures cause { HasCause (R.fault_count (loan_region self.old)) (R.fault_count (loan_region self.new)) (got_failed result) }
         ensures watch { R.watch (loan_region self.new) ≡ option_map after_call (R.watch (loan_region self.old)) }
         ensures fails { FailsSo (R.watch (loan_region self.old)) (got_failed result) }
