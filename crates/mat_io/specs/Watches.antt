@@ -1,5 +1,5 @@
 -- What a device that can be made to fail tells of its calls.
-use Rattle.std.specs.Prelude.{◌≡◌, ℕ, Bool, false, Option, Some, None}
+use Rattle.std.specs.Prelude.{◌≡◌, ℕ, Bool, true, false, Option, Some, None}
 use Rattle.mat_io.specs.Causes.{faults_after, risen}
 
 -- how many calls there were, up to the last number that 64 bits hold, and whether the next one is to fail
@@ -10,6 +10,10 @@ pub record Watch : Type 0 where
 -- what it tells after one call
 abbrev pub after_call : Watch → Watch
 after_call watch = record { calls = risen watch.calls; armed = false }
+
+-- what it tells once it is armed
+abbrev pub when_armed : Watch → Watch
+when_armed watch = record { calls = watch.calls; armed = true }
 
 -- a call fails exactly where the device was armed, if that is told
 abbrev pub FailsSo : Option Watch → Bool → Type 0

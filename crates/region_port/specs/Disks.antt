@@ -4,7 +4,7 @@ use Rattle.mat_tree.specs.Parts.{Part}
 use Rattle.region_port.specs.Calls.{Paths}
 use Rattle.region_port.specs.Entries.{content_of, paths_of, watch_of}
 use Rattle.region_port.specs.Lists.{all_of}
-use Rattle.region_port.specs.Watches.{Watch}
+use Rattle.mat_io.specs.Watches.{Watch}
 use Rattle.region_port.specs.declared.counts.Counts.{Counts}
 use Rattle.region_port.specs.declared.mem_disk.MemDisk.{MemDisk}
 

@@ -10,7 +10,7 @@ use Rattle.region_port.specs.declared.entry.Entry.{Entry}
 use Rattle.region_port.specs.declared.entry.DiskNode.{DiskNode}
 use Rattle.region_port.specs.declared.entry.DiskNode.TheVariants as kept
 use Rattle.region_port.specs.declared.counts.Counts.{Counts}
-use Rattle.region_port.specs.Watches.{Watch}
+use Rattle.mat_io.specs.Watches.{Watch}
 
 -- the node that an entry keeps
 abbrev pub node_kept : DiskNode → Node

@@ -3,7 +3,7 @@ use Rattle.std.specs.Prelude.{ℕ, Bool, List}
 use Rattle.mat_tree.specs.Parts.{Part, below}
 use Rattle.region_port.specs.Calls.{Paths}
 use Rattle.region_port.specs.Entries.{content_of, rough_paths, watch_of}
-use Rattle.region_port.specs.Watches.{Watch}
+use Rattle.mat_io.specs.Watches.{Watch}
 use Rattle.region_port.specs.declared.counts.Counts.{Counts}
 use Rattle.region_port.specs.declared.mem_region.MemRegion.{MemRegion}
 

@@ -1,24 +1,7 @@
--- What a device that can be made to fail tells of its calls.
-use Rattle.std.specs.Prelude.{◌≡◌, ℕ, Bool, true, false, Option, Some, None}
-use Rattle.mat_io.specs.Causes.{counted, risen}
-
--- how many calls there were, up to the last number that 64 bits hold, and whether the next one is to fail
-pub record Watch : Type 0 where
-  pub calls : ℕ
-  pub armed : Bool
-
--- what it tells after one call
-abbrev pub after_call : Watch → Watch
-after_call watch = record { calls = risen watch.calls; armed = false }
-
--- a call fails exactly where the device was armed, if that is told
-abbrev pub FailsSo : Option Watch → Bool → Type 0
-FailsSo None failed = Unit {0}
-FailsSo (Some watch) failed = failed ≡ watch.armed
-
--- what it tells once it is armed
-abbrev pub when_armed : Watch → Watch
-when_armed watch = record { calls = watch.calls; armed = true }
+-- What the calls of regions and of their disk have in common.
+use Rattle.std.specs.Prelude.{Bool, false, Option, Some, None}
+use Rattle.mat_io.specs.Causes.{counted}
+use Rattle.mat_io.specs.Watches.{Watch}
 
 -- a device that nobody has called or armed yet
 abbrev pub uncalled : Watch

@@ -12,7 +12,8 @@ ghost use Rattle.region_port.specs.Crashes.{Crashes};
 ghost use Rattle.region_port.specs.Entries.{content_of, entered, joined_counts, no_counts, paths_of, rough_paths};
 ghost use Rattle.region_port.specs.Lists.{all_of};
 ghost use Rattle.region_port.specs.Strays.{Finds, strays_failed};
-ghost use Rattle.region_port.specs.Watches.{after_call, joined_watch, uncalled, when_armed};
+ghost use Rattle.mat_io.specs.Watches.{after_call, when_armed};
+ghost use Rattle.region_port.specs.Watches.{joined_watch, uncalled};
 
 use crate::counts::Counts;
 use crate::crash::{Rest, crash_all};

@@ -10,7 +10,7 @@ ghost use Rattle.region_port.specs.Calls.{Appends, IfNotDone, Puts, Roughens, Sy
 ghost use Rattle.region_port.specs.Listing.{Lists, list_failed};
 ghost use Rattle.region_port.specs.Reads.{IsWithin, Reads, got_failed, needs_path};
 ghost use Rattle.region_port.specs.Entries.{entered, is_entry_at, is_within, latest, node_kept, path_of_entry};
-ghost use Rattle.region_port.specs.Watches.{after_call, when_armed};
+ghost use Rattle.mat_io.specs.Watches.{after_call, when_armed};
 
 use crate::counts::Counts;
 use crate::entry::{DiskNode, Entry};

@@ -9,7 +9,8 @@ ghost use Rattle.mat_tree.specs.Parts.{Part, file, folder, link, below, without}
 ghost use Rattle.region_port.specs.Reads.{IsWithin, Reads, got_failed, needs_path};
 ghost use Rattle.region_port.specs.Listing.{Lists, list_failed};
 ghost use Rattle.region_port.specs.Strays.{Finds, strays_failed};
-ghost use Rattle.region_port.specs.Watches.{FailsSo, Watch, after_call, joined_watch, newly_lent};
+ghost use Rattle.mat_io.specs.Watches.{FailsSo, Watch, after_call};
+ghost use Rattle.region_port.specs.Watches.{joined_watch, newly_lent};
 ghost use Rattle.region_port.specs.Calls.{Appends, Puts, Roughens, Syncs, Wipes, is_file, paths_below, paths_outside, paths_of_both, with_inner};
 
 use crate::got::Got;

@@ -4,7 +4,7 @@ ghost use Rattle.mat_path.specs.Names.{is_path};
 ghost use Rattle.mat_tree.specs.Parts.{HasTree, bare};
 ghost use Rattle.region_port.specs.Calls.{nowhere};
 ghost use Rattle.region_port.specs.Reads.{IsWithin, Reads, got_failed, needs_path};
-ghost use Rattle.region_port.specs.Watches.{FailsSo, after_call};
+ghost use Rattle.mat_io.specs.Watches.{FailsSo, after_call};
 
 use crate::got::Got;
 use crate::port::Region;
