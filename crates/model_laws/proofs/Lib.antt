@@ -50,3 +50,4 @@ pub mod KeptLemmas
 pub mod WaysAsked
 pub mod PlacedLemmas
 pub mod ClaimLemmas
+pub mod KeptStays

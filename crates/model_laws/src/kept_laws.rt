@@ -4,8 +4,9 @@ ghost use Rattle.mat_model.specs.declared.entries.Entry.{Entry};
 ghost use Rattle.mat_model.specs.declared.opening.Opening.{Opening};
 ghost use Rattle.mat_model.specs.History.{Point, after_all, opened, point_of};
 ghost use Rattle.mat_model.specs.Kept.{KeptRow};
+ghost use Rattle.mat_model.specs.Legal.{IsEach};
 ghost use Rattle.mat_model.specs.Openings.{IsOpening};
-ghost use Rattle.model_laws.specs.KeptRules.{KeptAscend, StaysKept, WasOpened, WasRecorded};
+ghost use Rattle.model_laws.specs.KeptRules.{KeptAscend, LeavesAlone, StaysKept, WasOpened, WasRecorded};
 
 /// Kept rows that ascend strictly by path do so behind any entries.
 pub fn history_keeps_kept_order()
@@ -30,4 +31,10 @@ pub fn kept_row_was_recorded_later()
     ensures { (point : Point) (later : List Entry) (kept : KeptRow) →
         KeptAscend point.kept → Contains (after_all point later).kept kept →
         StaysKept point later kept ⊎ WasRecorded point later kept }
+{}
+
+/// A row that is kept stays kept, as it is, behind entries that leave it alone.
+pub fn kept_row_stays()
+    ensures { (point : Point) (later : List Entry) (kept : KeptRow) →
+        Contains point.kept kept → IsEach (LeavesAlone kept.path) point later → Contains (after_all point later).kept kept }
 {}

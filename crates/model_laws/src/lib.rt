@@ -24,7 +24,7 @@ pub use claim_laws::{
 };
 pub use first_laws::{first_make_may_begin, first_wipe_may_begin, nothing_first_is_drained};
 pub use kept_laws::{
-    history_keeps_kept_order, kept_row_was_recorded, kept_row_was_recorded_later,
+    history_keeps_kept_order, kept_row_stays, kept_row_was_recorded, kept_row_was_recorded_later,
     opening_keeps_kept_order,
 };
 pub use laws::{
