@@ -51,3 +51,4 @@ pub mod WaysAsked
 pub mod PlacedLemmas
 pub mod ClaimLemmas
 pub mod KeptStays
+pub mod RecordedStands

@@ -1,12 +1,13 @@
-ghost use Rattle.std.specs.Prelude.{◌≡◌, ◌⊎◌, List};
+ghost use Rattle.std.specs.Prelude.{◌≡◌, ◌⊎◌, List, true};
 ghost use Rattle.std.specs.List.{Contains};
 ghost use Rattle.mat_model.specs.declared.entries.Entry.{Entry};
 ghost use Rattle.mat_model.specs.declared.opening.Opening.{Opening};
 ghost use Rattle.mat_model.specs.History.{Point, after_all, opened, point_of};
 ghost use Rattle.mat_model.specs.Kept.{KeptRow};
-ghost use Rattle.mat_model.specs.Legal.{IsEach};
+ghost use Rattle.mat_model.specs.Legal.{IsEach, IsRecorded, IsReplied};
 ghost use Rattle.mat_model.specs.Openings.{IsOpening};
-ghost use Rattle.model_laws.specs.KeptRules.{KeptAscend, LeavesAlone, StaysKept, WasOpened, WasRecorded};
+ghost use Rattle.model_laws.specs.RowRules.{served_at};
+ghost use Rattle.model_laws.specs.KeptRules.{IsRecordedBy, KeptAscend, LeavesAlone, StaysKept, WasOpened, WasRecorded};
 
 /// Kept rows that ascend strictly by path do so behind any entries.
 pub fn history_keeps_kept_order()
@@ -37,4 +38,11 @@ pub fn kept_row_was_recorded_later()
 pub fn kept_row_stays()
     ensures { (point : Point) (later : List Entry) (kept : KeptRow) →
         Contains point.kept kept → IsEach (LeavesAlone kept.path) point later → Contains (after_all point later).kept kept }
+{}
+
+/// Where what counts is recorded exactly where a row was made, a row that is recorded stands then.
+pub fn recorded_row_stands()
+    ensures { (point : Point) (entry : Entry) (kept : KeptRow) →
+        IsReplied point entry → IsRecorded point entry → (by : IsRecordedBy point entry.event (served_at point entry) kept) →
+        by.row.stands ≡ true }
 {}

@@ -25,7 +25,7 @@ pub use claim_laws::{
 pub use first_laws::{first_make_may_begin, first_wipe_may_begin, nothing_first_is_drained};
 pub use kept_laws::{
     history_keeps_kept_order, kept_row_stays, kept_row_was_recorded, kept_row_was_recorded_later,
-    opening_keeps_kept_order,
+    opening_keeps_kept_order, recorded_row_stands,
 };
 pub use laws::{
     answer_stays, finish_answers_truly, finish_keeps_apart, finish_keeps_standing,
