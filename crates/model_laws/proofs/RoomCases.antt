@@ -14,7 +14,7 @@ use Rattle.mat_model.specs.Requests.{RequestContext, enter, is_open_of, leave, p
 use Rattle.mat_model.specs.Room.{entries_for, is_alone}
 use Rattle.model_laws.proofs.ListTests.{filter_le}
 use Rattle.model_laws.proofs.RoomLists.{alone_stored, fewer_filtered, one_less}
-use Rattle.model_laws.proofs.RowCases.{IsQuiet, asked_served, cleaned_served, either_served, flushed_served, invalid_served}
+use Rattle.model_laws.proofs.RowCases.{IsQuiet, asked_served, cleaned_served, either_passed, either_served, flushed_served, invalid_served}
 use Rattle.model_laws.proofs.Serving.{asked_by}
 use Rattle.mat_model.specs.Rows.{is_clear_of}
 
@@ -68,10 +68,6 @@ depart_less command gate known =
 abbrev Needs : Asked → Book → Served → Type 0
 Needs request book served =
     length served.book.live + length served.book.waiting + 1 ≤ length book.live + length book.waiting + entries_for request served.reply
-
-either_passed : (P : Passed → Type 0) (b : Bool) (first second : Passed) → P first → P second → P (cond b first second)
-either_passed P true first second one other = one
-either_passed P false first second one other = other
 
 enter_needs : (number command state : ℕ) (soft hurried : Bool) (book : Book) →
     Needs (asked.Enter command state soft hurried) book (enter number command state soft hurried book)

@@ -76,7 +76,8 @@ pub record ServedCases (P : Served → Type 0) (number : ℕ) (context : Request
   -- it is true where the rows that are due are stored
   pub flushes : request ≡ asked.Flush → P (flushed_served context.due book)
 
-either_passed : (P : Passed → Type 0) (b : Bool) (first second : Passed) → P first → P second → P (cond b first second)
+-- the same of what a command that comes is answered with
+pub either_passed : (P : Passed → Type 0) (b : Bool) (first second : Passed) → P first → P second → P (cond b first second)
 either_passed P true first second one other = one
 either_passed P false first second one other = other
 
