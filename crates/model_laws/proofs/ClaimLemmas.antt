@@ -246,7 +246,7 @@ disk_cases next rows work row rules among on =
         record { job = job; among = within; part = part; lent = is; path = sym from.path; stamp = stamp }
 
 -- a part that a job reads is one of its loans
-part_loan : (job : Job) (part : Lent) → job.lent ≡ Some part → Contains (loans_of job) part.path
+pub part_loan : (job : Job) (part : Lent) → job.lent ≡ Some part → Contains (loans_of job) part.path
 part_loan job part is =
     contains_more (path_of_task job.task) (claimed_by_part job.lent) part.path
     (subst (λ (o : Option Lent). Contains (claimed_by_part o) part.path) (sym is) (contains_first part.path []))

@@ -73,23 +73,26 @@ add_ascends condemned (row ∷ rows) debris up most =
     (λ x. let h = most x in omega (arith, h, covering-put x new debris))
 
 -- some of what ascends does
-after_filter : (p : List (List ℕ)) (test : Debris → Bool) (debris : List Debris) → are_after p debris ≡ true → are_after p (filter test debris) ≡ true
-after_filter p test [] all = refl
-after_filter p test (first ∷ debris) all =
-    let parts = and_parts (comes_before p first.path) (are_after p debris) all in
-    elim (test first) as (λ b. are_after p (cond b (first ∷ filter test debris) (filter test debris)) ≡ true) [
-      | true ↦ and_from (comes_before p first.path) (are_after p (filter test debris)) parts.0 (after_filter p test debris parts.1)
-      | false ↦ after_filter p test debris parts.1
+after-filter : {X : Type 0} (place : X → List (List ℕ)) (p : List (List ℕ)) (test : X → Bool) (xs : List X) → list_all (is_after_by place p) xs ≡ true →
+    list_all (is_after_by place p) (filter test xs) ≡ true
+after-filter place p test [] all = refl
+after-filter place p test (x ∷ xs) all =
+    let parts = and_parts (comes_before p (place x)) (list_all (is_after_by place p) xs) all in
+    elim (test x) as (λ b. list_all (is_after_by place p) (cond b (x ∷ filter test xs) (filter test xs)) ≡ true) [
+      | true ↦ and_from (comes_before p (place x)) (list_all (is_after_by place p) (filter test xs)) parts.0 (after-filter place p test xs parts.1)
+      | false ↦ after-filter place p test xs parts.1
     ]
 
-pub filter_ascends : (test : Debris → Bool) (debris : List Debris) → Ascends debris → Ascends (filter test debris)
-filter_ascends test [] up = refl
-filter_ascends test (first ∷ debris) up =
-    let parts = and_parts (are_after first.path debris) (ascends_by path_of_debris debris) up in
-    elim (test first) as (λ b. ascends_by path_of_debris (cond b (first ∷ filter test debris) (filter test debris)) ≡ true) [
-      | true ↦ and_from (are_after first.path (filter test debris)) (ascends_by path_of_debris (filter test debris))
-          (after_filter first.path test debris parts.0) (filter_ascends test debris parts.1)
-      | false ↦ filter_ascends test debris parts.1
+pub ascends-filter : {X : Type 0} (place : X → List (List ℕ)) (test : X → Bool) (xs : List X) → ascends_by place xs ≡ true →
+    ascends_by place (filter test xs) ≡ true
+ascends-filter place test [] up = refl
+ascends-filter place test (x ∷ xs) up =
+    let parts = and_parts (list_all (is_after_by place (place x)) xs) (ascends_by place xs) up in
+    elim (test x) as (λ b. ascends_by place (cond b (x ∷ filter test xs) (filter test xs)) ≡ true) [
+      | true ↦
+          and_from (list_all (is_after_by place (place x)) (filter test xs)) (ascends_by place (filter test xs)) (after-filter place (place x) test xs parts.0)
+          (ascends-filter place test xs parts.1)
+      | false ↦ ascends-filter place test xs parts.1
     ]
 
 -- and what is marked is in order as it was

@@ -52,3 +52,6 @@ pub mod PlacedLemmas
 pub mod ClaimLemmas
 pub mod KeptStays
 pub mod RecordedStands
+pub mod StoredPuts
+pub mod StoredLemmas
+pub mod StoredKept

@@ -162,7 +162,7 @@ declared_placed asked.Flush rows path tree may at is has short = absurd cc
 -- ---- what an entry leaves of ways and of jobs
 
 -- the end of a task leaves all but marks and debris
-task_leaves : (Q : WorkState → Type 0) (number : ℕ) (begun : Task) (out : Outcome) (how : Recorded) (book : Book) (work : WorkState) →
+pub task_leaves : (Q : WorkState → Type 0) (number : ℕ) (begun : Task) (out : Outcome) (how : Recorded) (book : Book) (work : WorkState) →
     ((dirty : List (List (List ℕ))) (debris : List Debris) → Q (record work { dirty = dirty; debris = debris })) →
     Q (ended_work begun out (finish number begun out how book).reply work)
 task_leaves Q number (task.Make path stamp) out how book work each = by (find (is_declared path stamp) book.rows) out
@@ -183,7 +183,7 @@ task_leaves Q number (task.Wipe path) (outcome.Fault note) how book work each = 
 task_leaves Q number (task.Wipe path) outcome.NoMemory how book work each = each work.dirty _
 
 -- and so does the return of a part
-part_leaves : (Q : WorkState → Type 0) (o : Option Lent) (rows : List Row) (work : WorkState) → Q work → ((debris : List Debris) → Q (record work { debris = debris })) →
+pub part_leaves : (Q : WorkState → Type 0) (o : Option Lent) (rows : List Row) (work : WorkState) → Q work → ((debris : List Debris) → Q (record work { debris = debris })) →
     Q (returned o rows work)
 part_leaves Q None rows work same each = same
 part_leaves Q (Some lent) rows work same each =

@@ -40,7 +40,7 @@ use Rattle.model_laws.proofs.WorkDone.{kept_ended}
 -- ---- entries
 
 -- rows step where a request comes
-asked_steps : (point : Point) (entry : Entry) (request : Asked) → are_apart point.book.rows ≡ true → entry.event ≡ event.Asked request →
+pub asked_steps : (point : Point) (entry : Entry) (request : Asked) → are_apart point.book.rows ≡ true → entry.event ≡ event.Asked request →
     Steps (next_number point) (declares request) point.book.rows (after point entry).book.rows
 asked_steps point entry request apart is row among =
     elim (row_step point entry row apart among) [

@@ -6,3 +6,4 @@ pub mod RoomRules
 pub mod WorkRules
 pub mod RunRules
 pub mod KeptRules
+pub mod StoredRules

@@ -49,6 +49,7 @@ pub use ticket_laws::{
     removed_rows_answer_below, replaced_rows_answer_below, row_above_open_ticket_covers,
 };
 pub use work_laws::{
-    entry_keeps_placed, entry_keeps_work, history_keeps_placed, history_keeps_work,
-    opening_keeps_placed, opening_keeps_work,
+    entry_keeps_placed, entry_keeps_stored, entry_keeps_work, history_keeps_placed,
+    history_keeps_stored, history_keeps_work, opening_keeps_placed, opening_keeps_stored,
+    opening_keeps_work,
 };

@@ -6,6 +6,7 @@ ghost use Rattle.mat_model.specs.Legal.{ComesInOrder, IsEach};
 ghost use Rattle.mat_model.specs.Openings.{IsOpening};
 ghost use Rattle.mat_model.specs.Rows.{are_apart};
 ghost use Rattle.model_laws.specs.RowRules.{AreStampedBelow};
+ghost use Rattle.model_laws.specs.StoredRules.{IsStored};
 ghost use Rattle.model_laws.specs.WorkRules.{AsksAtPaths, IsPlaced, IsWork};
 
 /// An entry whose work comes in order keeps the rules of a work state.
@@ -46,4 +47,24 @@ pub fn history_keeps_placed()
 pub fn opening_keeps_placed()
     ensures { (opening : Opening) (history : List Entry) → IsOpening opening → IsEach AsksAtPaths (opened opening) history →
         IsPlaced (book_of opening history).rows (point_of opening history).work }
+{}
+
+/// An entry whose work comes in order keeps the rules of the stored rows, where the work state keeps its own.
+pub fn entry_keeps_stored()
+    ensures { (point : Point) (entry : Entry) → ComesInOrder point entry →
+        IsWork (next_number point) point.book.rows point.work → IsStored point.book.rows point.work.jobs point.kept →
+        IsStored (after point entry).book.rows (after point entry).work.jobs (after point entry).kept }
+{}
+
+/// Behind any point, entries whose work comes in order do so too.
+pub fn history_keeps_stored()
+    ensures { (point : Point) (later : List Entry) → IsEach ComesInOrder point later →
+        IsWork (next_number point) point.book.rows point.work → IsStored point.book.rows point.work.jobs point.kept →
+        IsStored (after_all point later).book.rows (after_all point later).work.jobs (after_all point later).kept }
+{}
+
+/// From an opening that is right, every history whose work comes in order leads to stored rows that keep their rules.
+pub fn opening_keeps_stored()
+    ensures { (opening : Opening) (history : List Entry) → IsOpening opening → IsEach ComesInOrder (opened opening) history →
+        IsStored (book_of opening history).rows (point_of opening history).work.jobs (point_of opening history).kept }
 {}
