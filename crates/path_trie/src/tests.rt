@@ -1,6 +1,6 @@
 ghost use Rattle.std.specs.Prelude.{◌≡◌, ◌<◌};
 
-use crate::{Steps, Trie};
+use crate::{Steps, Trie, cover_is_shortest};
 use mat_path::Path;
 use std::alloc::Global;
 use std::marker::Brand;
@@ -81,6 +81,22 @@ fn change(
     }
 }
 
+/// The value of an entry that was found.
+fn value_of(found: Option<(&Path, &u64)>) -> Option<u64> {
+    match found {
+        Some((_, value)) => Some(*value),
+        None => None,
+    }
+}
+
+/// The value of an entry of a list.
+fn listed(found: Option<&(Path, u64)>) -> Option<u64> {
+    match found {
+        Some((_, value)) => Some(*value),
+        None => None,
+    }
+}
+
 /// Whether a trie and a list agree on what covers a path and what overlaps it.
 fn agree(trie: &Trie<u64>, list: &[(Path, u64)], path: &Path) -> Result<bool, Fail> {
     let count = overlap_count(list, path);
@@ -90,6 +106,29 @@ fn agree(trie: &Trie<u64>, list: &[(Path, u64)], path: &Path) -> Result<bool, Fa
             && trie.overlaps(path) == (count > 0)
             && cover_of(trie, path) == first_above(list, path),
     )
+}
+
+/// Whether a trie and a list agree on how many entries there are, which is in the middle, and which come from a path on.
+fn agree_on_order(trie: &Trie<u64>, list: &[(Path, u64)], path: &Path) -> bool {
+    let middle = list.len() / 2;
+    trie.len() == list.len()
+        && value_of(trie.at(middle)) == listed(list.get(middle))
+        && value_of(trie.first_from(path)) == listed(list.iter().find(|entry| entry.0 >= *path))
+        && value_of(trie.first_behind(path)) == listed(list.iter().find(|entry| entry.0 > *path))
+        && value_of(trie.first_under(path))
+            == listed(list.iter().find(|entry| path.is_prefix(&entry.0)))
+}
+
+/// Puts another value at a path where one stands in a list, and whether the trie did so too.
+fn change_value(trie: &mut Trie<u64>, list: &mut [(Path, u64)], path: &Path, value: u64) -> bool {
+    match list.binary_search_by(|entry| entry.0.cmp(path)) {
+        Ok(place) => {
+            let old = list[place].1;
+            list[place].1 = value;
+            trie.replace(path, value) == Ok(old)
+        }
+        Err(_) => trie.replace(path, value) == Err(value),
+    }
 }
 
 /// A trie with values at `a/b` and `c`.
@@ -123,6 +162,34 @@ fn the_one_path_that_overlaps_a_folder(rt: HostRuntime) -> Result<(), Fail> {
 }
 
 #[test]
+fn what_is_found_from_some_paths_on(rt: HostRuntime) -> Result<(), Fail> {
+    let mut trie = two_values(rt.alloc())?;
+    assert_eq!(rt;
+        trie.insert(&Path::read(rt.alloc(), b"a/b/c")?, 3),
+        Ok(None)
+    );
+    let rows = [
+        ("a", Some(1), Some(1), Some(1), None),
+        ("a/b", Some(1), Some(3), Some(1), None),
+        ("a/b/c", Some(3), Some(2), Some(3), Some(3)),
+        ("a/c", Some(2), Some(2), None, None),
+        ("c/x", None, None, None, None),
+    ];
+    for (text, from, behind, under, above) in rows {
+        let path = Path::read(rt.alloc(), text.as_bytes())?;
+        assert_eq!(rt; value_of(trie.first_from(&path)), from, "{text:?}");
+        assert_eq!(rt; value_of(trie.first_behind(&path)), behind, "{text:?}");
+        assert_eq!(rt; value_of(trie.first_under(&path)), under, "{text:?}");
+        assert_eq!(rt; value_of(trie.above_from(&path, 3)), above, "{text:?}");
+    }
+    let top = Path::read(rt.alloc(), b"a")?;
+    let low = Path::read(rt.alloc(), b"a/b")?;
+    assert_eq!(rt; value_of(trie.next_under(&top, &low)), Some(3));
+    cover_is_shortest::<u8>();
+    Ok(())
+}
+
+#[test]
 fn random_paths_against_a_sorted_list(rt: HostRuntime) -> Result<(), Fail> {
     let mut trie = Trie::new(rt.alloc());
     let mut list: Vec<(Path, u64)> = Vec::new(rt.alloc());
@@ -134,6 +201,8 @@ fn random_paths_against_a_sorted_list(rt: HostRuntime) -> Result<(), Fail> {
         if turn % 64 == 0 {
             let asked = path_by(rt.alloc(), next(number))?;
             assert!(rt; agree(&trie, &list, &asked)?);
+            assert!(rt; agree_on_order(&trie, &list, &asked));
+            assert!(rt; change_value(&mut trie, &mut list, &asked, turn + 20_000));
         }
     }
     Ok(())
