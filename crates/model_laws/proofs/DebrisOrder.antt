@@ -1,6 +1,6 @@
 -- Debris in strict order of path: it stays so where some of it goes, is marked, or comes to a place that is apart from all of it.
 use Rattle.std.proofs.Common.{◌≡◌, ℕ, ◌+◌, ◌≤◌, Bool, true, false, ◌&&◌, List, [], ◌∷◌, cond, refl, ap₂, ◌∙◌, map, arith}
-use Rattle.std.specs.List.{filter, list_all, list_any}
+use Rattle.std.specs.List.{list_all, list_any}
 use Rattle.std.proofs.lemmas.Bool.{and_from, and_parts, or_parts}
 use Rattle.mat_path.specs.Covering.{covering}
 use Rattle.mat_path.specs.Names.{is_prefix, overlap}
@@ -72,30 +72,7 @@ add_ascends condemned (row ∷ rows) debris up most =
     add_ascends condemned rows (put_debris new debris) (put_apart new debris up (λ x. let h = most x in omega (arith, h)))
     (λ x. let h = most x in omega (arith, h, covering-put x new debris))
 
--- some of what ascends does
-after-filter : {X : Type 0} (place : X → List (List ℕ)) (p : List (List ℕ)) (test : X → Bool) (xs : List X) → list_all (is_after_by place p) xs ≡ true →
-    list_all (is_after_by place p) (filter test xs) ≡ true
-after-filter place p test [] all = refl
-after-filter place p test (x ∷ xs) all =
-    let parts = and_parts (comes_before p (place x)) (list_all (is_after_by place p) xs) all in
-    elim (test x) as (λ b. list_all (is_after_by place p) (cond b (x ∷ filter test xs) (filter test xs)) ≡ true) [
-      | true ↦ and_from (comes_before p (place x)) (list_all (is_after_by place p) (filter test xs)) parts.0 (after-filter place p test xs parts.1)
-      | false ↦ after-filter place p test xs parts.1
-    ]
-
-pub ascends-filter : {X : Type 0} (place : X → List (List ℕ)) (test : X → Bool) (xs : List X) → ascends_by place xs ≡ true →
-    ascends_by place (filter test xs) ≡ true
-ascends-filter place test [] up = refl
-ascends-filter place test (x ∷ xs) up =
-    let parts = and_parts (list_all (is_after_by place (place x)) xs) (ascends_by place xs) up in
-    elim (test x) as (λ b. ascends_by place (cond b (x ∷ filter test xs) (filter test xs)) ≡ true) [
-      | true ↦
-          and_from (list_all (is_after_by place (place x)) (filter test xs)) (ascends_by place (filter test xs)) (after-filter place (place x) test xs parts.0)
-          (ascends-filter place test xs parts.1)
-      | false ↦ ascends-filter place test xs parts.1
-    ]
-
--- and what is marked is in order as it was
+-- what is marked is in order as it was
 pub ascends-map : (f : Debris → Debris) → ((debris : Debris) → (f debris).path ≡ debris.path) → (some : List Debris) →
     ascends_by path_of_debris (map f some) ≡ ascends_by path_of_debris some
 ascends-map f keeps [] = refl

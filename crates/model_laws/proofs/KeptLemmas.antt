@@ -112,7 +112,7 @@ opening_ascends opening history right = history_ascends (opened opening) history
 -- ---- where they come from
 
 -- a kept row after an event was kept before and is left alone, or the event recorded it
-abbrev Comes : Point → Event → KeptRow → Served → Type 0
+abbrev pub Comes : Point → Event → KeptRow → Served → Type 0
 Comes point what k served =
     (Contains point.kept k × IsLeftAlone point what served k.path) ⊎ IsRecordedBy point what served k
 
@@ -336,7 +336,7 @@ done_comes point number out how job k asc runs (task.Wipe path) is =
     λ among. inl (among, end_alone point number out (finish (next_number point) (task.Wipe path) out how point.book) k.path refl (λ told. absurd cc))
 
 -- an event
-event_comes : (point : Point) (moment : ℕ) (what : Event) (said : Reply) (k : KeptRow) → KeptAscend point.kept →
+pub event_comes : (point : Point) (moment : ℕ) (what : Event) (said : Reply) (k : KeptRow) → KeptAscend point.kept →
     Contains (kept_after point what (answer point moment what said)) k → Comes point what k (answer point moment what said)
 event_comes point moment (event.Asked request) said k asc = asked_comes point moment request said k asc
 event_comes point moment (event.Begin begun) said k asc = begins (refusal_note said)

@@ -6,7 +6,7 @@ use Rattle.std.proofs.lemmas.Bool.{and_from, and_parts, both_ways, eq-eqb, eqb-t
 use Rattle.std.proofs.lemmas.List.Elements.{All-contains, Contains-append_cases}
 use Rattle.mat_digest.specs.declared.digest.Digest.{Digest}
 use Rattle.mat_path.specs.Names.{is_path}
-use Rattle.mat_path.proofs.Elements.{contains_cases, filtered_contains}
+use Rattle.mat_path.proofs.Elements.{contains_cases, filtered_contains, mapped_contains}
 use Rattle.mat_path.proofs.PathLemmas.{prefix_split}
 use Rattle.mat_path.proofs.SameNames.{same_names-eq}
 use Rattle.mat_tree.specs.declared.flat.Flat.{Flat}
@@ -30,18 +30,20 @@ use Rattle.mat_model.specs.declared.requests.Asked.TheVariants as asked
 use Rattle.mat_model.specs.Declarations.{declared_at, tree_at, written_tree}
 use Rattle.mat_model.specs.Gate.{Served}
 use Rattle.mat_model.specs.History.{Point, after, after_all, answer, answer_done, begin_with, book_of, is_keeper, is_store_fault, next_number, opened, point_of, recorded_as, refusal_note, request_context, work_after, work_begun}
-use Rattle.mat_model.specs.Kept.{may_fail, overlaps_kept}
+use Rattle.mat_model.specs.Kept.{KeptRow, may_fail, overlaps_kept}
 use Rattle.mat_model.specs.Legal.{IsEach, MayAsk, MayHappen}
-use Rattle.mat_model.specs.Openings.{IsOpening, is_row_placed}
+use Rattle.mat_model.specs.Openings.{IsOpening, is_row_placed, kept_at_opening}
 use Rattle.mat_model.specs.Requests.{at_moment}
 use Rattle.mat_model.specs.Rows.{are_apart, cover, covers, is_at_path}
 use Rattle.mat_model.specs.Work.{end_make, finish, is_declared}
 use Rattle.mat_model.specs.WorkState.{Debris, Job, Lent, Way, WayOf, WorkState, cleans_all, condemned_all, copied, copied_from, ended, ended_work, has_stamp, held, is_cleaning, is_other_job, is_way_of, lent_by, lent_for, lent_of, made_work, path_of_task, put_debris, refused, returned, running, stands_as, started, store, way_declared, way_of, way_within, ways_after}
 use Rattle.model_laws.specs.Laws.{declares}
+use Rattle.model_laws.specs.KeptRules.{KeptAscend}
 use Rattle.model_laws.specs.RowRules.{AreStampedBelow, IsDeclaredBy, RowStep, is_copy_placed, tree_declared}
 use Rattle.model_laws.specs.WorkRules.{AsksAtPaths, IsHeldPlain, IsPartPlaced, IsPlaced, IsPlain, IsReadAtPaths, WritesAt, WritesAtPath}
 use Rattle.model_laws.proofs.ApartLemmas.{history_apart}
 use Rattle.model_laws.proofs.Elements.{contains_all, found_contains, found_passes}
+use Rattle.model_laws.proofs.KeptLemmas.{event_comes, history_ascends, opening_ascends}
 use Rattle.model_laws.proofs.RowCases.{either_served, fault_note}
 use Rattle.model_laws.proofs.RowLemmas.{row_step}
 use Rattle.model_laws.proofs.StampLemmas.{entry_stamps, one_stamp, opening_stamps}
@@ -293,7 +295,7 @@ task_placed rows ways (task.Wipe path) reach = tt
 
 -- a row that was there has a way that goes with its tree
 old_goes : (point : Point) (what : Event) (left : WorkState) (old : Row) → AreStampedBelow (next_number point) point.book.rows →
-    IsPlaced point.book.rows point.work → Contains point.book.rows old → WorkGoes point what left → Goes (way_of old.stamp left.ways) old.tree
+    IsPlaced point.book.rows point.work point.kept → Contains point.book.rows old → WorkGoes point what left → Goes (way_of old.stamp left.ways) old.tree
 old_goes point what left old stamped placed among (jobs, goes) =
     elim goes [
       | inl same ↦ subst (λ (ws : List WayOf). Goes (way_of old.stamp ws) old.tree) (sym same) before
@@ -323,7 +325,7 @@ old_goes point what left old stamped placed among (jobs, goes) =
         (sym (other_way old.stamp row.stamp held point.work.ways (λ at. both_ways (row.stamp == old.stamp) is (eq-eqb row.stamp old.stamp at)))) before
 
 -- a row that an entry declared has a way that goes with its tree
-new_goes : (point : Point) (entry : Entry) (row : Row) → IsPlaced point.book.rows point.work →
+new_goes : (point : Point) (entry : Entry) (row : Row) → IsPlaced point.book.rows point.work point.kept →
     IsDeclaredBy point entry.event (answer point entry.now entry.event entry.reply).reply row → Goes (way_of row.stamp (after point entry).work.ways) row.tree
 new_goes point entry row placed new =
     let ways : (after point entry).work.ways ≡ ways_after new.request (reply.Declared (next_number point)) point.book.rows point.work.ways =
@@ -340,14 +342,20 @@ new_goes point entry row placed new =
         (sym is) (ap (λ (r : Reply). ways_after new.request r point.book.rows point.work.ways) said)
 
 -- an entry keeps trees and ways at paths
-pub entry_placed : (point : Point) (entry : Entry) → are_apart point.book.rows ≡ true → AreStampedBelow (next_number point) point.book.rows →
-    AsksAtPaths point entry → IsPlaced point.book.rows point.work → IsPlaced (after point entry).book.rows (after point entry).work
-entry_placed point entry apart stamped (may, at) placed = record {
+pub entry_placed : (point : Point) (entry : Entry) → are_apart point.book.rows ≡ true → AreStampedBelow (next_number point) point.book.rows → KeptAscend point.kept →
+    AsksAtPaths point entry → IsPlaced point.book.rows point.work point.kept → IsPlaced (after point entry).book.rows (after point entry).work (after point entry).kept
+entry_placed point entry apart stamped up (may, at) placed = record {
   reach = λ row among. reaches row (row_step point entry row apart among);
   lent = λ job among.
       elim (goes.0 job among) [
         | inl before ↦ placed.lent job before
         | inr (begun, is) ↦ subst IsPartPlaced (sym is) (task_placed point.book.rows point.work.ways begun placed.reach)
+      ];
+  stored = λ one among.
+      elim (event_comes point entry.now entry.event entry.reply one up among) [
+        | inl (before, alone) ↦ placed.stored one before
+        | inr new ↦
+            subst (λ (k : KeptRow). list_all (is_placed k.path) k.tree ≡ true) new.same (reaches new.row (row_step point entry new.row apart new.among))
       ];
   held = λ row among. (both row (row_step point entry row apart among)).0;
   copied = λ row among. (both row (row_step point entry row apart among)).1;
@@ -371,18 +379,22 @@ entry_placed point entry apart stamped (may, at) placed = record {
         (old_goes point entry.event (after point entry).work was.old stamped placed was.among goes))
 
 -- a history keeps them
-pub history_placed : (point : Point) (later : List Entry) → are_apart point.book.rows ≡ true → AreStampedBelow (next_number point) point.book.rows →
-    IsEach AsksAtPaths point later → IsPlaced point.book.rows point.work → IsPlaced (after_all point later).book.rows (after_all point later).work
-history_placed point [] apart stamped each placed = placed
-history_placed point (entry ∷ later) apart stamped each placed =
-    history_placed (after point entry) later (history_apart point (entry ∷ []) apart) (entry_stamps point entry apart stamped) each.1
-    (entry_placed point entry apart stamped each.0 placed)
+pub history_placed : (point : Point) (later : List Entry) → are_apart point.book.rows ≡ true → AreStampedBelow (next_number point) point.book.rows → KeptAscend point.kept →
+    IsEach AsksAtPaths point later → IsPlaced point.book.rows point.work point.kept → IsPlaced (after_all point later).book.rows (after_all point later).work (after_all point later).kept
+history_placed point [] apart stamped up each placed = placed
+history_placed point (entry ∷ later) apart stamped up each placed =
+    history_placed (after point entry) later (history_apart point (entry ∷ []) apart) (entry_stamps point entry apart stamped)
+    (history_ascends point (entry ∷ []) up) each.1
+    (entry_placed point entry apart stamped up each.0 placed)
 
 -- and an opening that is right has them so
-pub opening_placed : (opening : Opening) → IsOpening opening → IsPlaced (opened opening).book.rows (opened opening).work
+pub opening_placed : (opening : Opening) → IsOpening opening → IsPlaced (opened opening).book.rows (opened opening).work (opened opening).kept
 opening_placed opening right = record {
   reach = λ row among. contains_all is_row_placed opening.rows row right.placed among;
   lent = λ job among. absurd (none among);
+  stored = λ one among.
+      let (row, within, is) = mapped_contains (kept_at_opening opening) opening.rows one among in
+      subst (λ (k : KeptRow). list_all (is_placed k.path) k.tree ≡ true) is (contains_all is_row_placed opening.rows row right.placed within);
   held = λ row among holds. absurd cc;
   copied = λ row among. tt;
 }
@@ -391,6 +403,6 @@ opening_placed opening right = record {
     none (k, within, at) = omega arith
 
 pub opened_placed : (opening : Opening) (history : List Entry) → IsOpening opening → IsEach AsksAtPaths (opened opening) history →
-    IsPlaced (book_of opening history).rows (point_of opening history).work
+    IsPlaced (book_of opening history).rows (point_of opening history).work (point_of opening history).kept
 opened_placed opening history right each =
-    history_placed (opened opening) history right.apart (opening_stamps opening [] right) each (opening_placed opening right)
+    history_placed (opened opening) history right.apart (opening_stamps opening [] right) (opening_ascends opening [] right) each (opening_placed opening right)

@@ -1,13 +1,12 @@
 -- The stored rows keep their rules: after each entry whose work comes in order, after a history, and from an opening that is right.
 use Rattle.std.proofs.Common.{◌≡◌, ℕ, ◌==◌, Bool, true, false, ◌&&◌, ◌⊎◌, inl, inr, List, [], ◌∷◌, Option, Some, None, cond, refl, sym, ap, subst, ◌∙◌, map, find, Contains, arith}
-use Rattle.std.specs.List.{filter, list_all, list_any}
-use Rattle.std.proofs.lemmas.Bool.{and_from, and_parts}
+use Rattle.std.specs.List.{filter, list_any}
+use Rattle.std.proofs.lemmas.Bool.{and_parts}
 use Rattle.mat_path.specs.Covering.{covering}
 use Rattle.mat_path.specs.Names.{overlap}
 use Rattle.mat_path.proofs.CoveringLemmas.{covering-append}
 use Rattle.mat_path.proofs.Elements.{filtered_contains, mapped_contains}
 use Rattle.mat_path.proofs.SameNames.{same_names-eq}
-use Rattle.mat_tree.specs.Trees.{ascends_by, is_after_by}
 use Rattle.mat_model.specs.declared.answers.FaultNote.{FaultNote}
 use Rattle.mat_model.specs.declared.answers.Recorded.{Recorded}
 use Rattle.mat_model.specs.declared.answers.Recorded.TheVariants as recorded
@@ -31,17 +30,19 @@ use Rattle.mat_model.specs.Kept.{KeptRow, is_due, is_kept_clear, is_unlisted, ke
 use Rattle.mat_model.specs.Legal.{ComesInOrder, IsEach, IsInOrder}
 use Rattle.mat_model.specs.Openings.{IsOpening, kept_at_opening, path_of_row}
 use Rattle.mat_model.specs.Requests.{at_moment}
-use Rattle.mat_model.specs.Rows.{are_apart, comes_before, is_apart, is_at_path, standing_row}
+use Rattle.mat_model.specs.Rows.{are_apart, is_at_path, standing_row}
 use Rattle.mat_model.specs.Work.{end_make, finish, is_declared}
 use Rattle.mat_model.specs.WorkState.{Job, WorkState, cleans_all, condemned_all, ended, first_task, is_cleaning, is_job, is_other_job, path_of_task, refused, returned, running, started, way_of}
 use Rattle.model_laws.specs.Laws.{declares}
-use Rattle.model_laws.specs.StoredRules.{IsStored, path_of_kept}
+use Rattle.model_laws.specs.KeptRules.{path_of_kept}
+use Rattle.model_laws.specs.StoredRules.{IsStored}
 use Rattle.model_laws.specs.WorkRules.{IsWork}
-use Rattle.model_laws.proofs.Apart.{apart-map, apart_parts}
+use Rattle.model_laws.proofs.Apart.{apart-map}
 use Rattle.model_laws.proofs.BooksRows.{apart_same}
 use Rattle.model_laws.proofs.Changes.{standing-path}
 use Rattle.model_laws.proofs.Coverings.{covering_rows-apart}
 use Rattle.model_laws.proofs.FirstLemmas.{make_may_begin, wipe_may_begin}
+use Rattle.model_laws.proofs.KeptLemmas.{opening_ascends}
 use Rattle.model_laws.proofs.PlacedLemmas.{part_leaves, task_leaves}
 use Rattle.model_laws.proofs.RowCases.{cleaned_served, either_served, event_served, flushed_served, invalid_served}
 use Rattle.model_laws.proofs.StoredLemmas.{made_may, store_all, stored_begun, stored_dropped, stored_flushed, stored_made, stored_no_task, stored_steps}
@@ -238,22 +239,7 @@ history_stored point (entry ∷ later) orders rules stored =
 
 -- ---- openings
 
--- rows in order are stored in order, where they were
-opening_order : (opening : Opening) (rows : List Row) → are_apart rows ≡ true → ascends_by path_of_kept (map (kept_at_opening opening) rows) ≡ true
-opening_order opening [] apart = refl
-opening_order opening (row ∷ rows) apart =
-    let parts = and_parts (list_all (is_apart row) rows) (are_apart rows) apart in
-    and_from (list_all (is_after_by path_of_kept row.path) (map (kept_at_opening opening) rows)) (ascends_by path_of_kept (map (kept_at_opening opening) rows))
-    (behind row rows parts.0) (opening_order opening rows parts.1)
-  where
-    behind : (first : Row) (others : List Row) → list_all (is_apart first) others ≡ true →
-        list_all (is_after_by path_of_kept first.path) (map (kept_at_opening opening) others) ≡ true
-    behind first [] all = refl
-    behind first (other ∷ others) all =
-        let parts = and_parts (is_apart first other) (list_all (is_apart first) others) all in
-        and_from (comes_before first.path other.path) (list_all (is_after_by path_of_kept first.path) (map (kept_at_opening opening) others))
-        (apart_parts first other parts.0).0 (behind first others parts.1)
-
+-- the rows of an opening are stored where they are
 opening_paths : (opening : Opening) (rows : List Row) → map path_of_kept (map (kept_at_opening opening) rows) ≡ map path_of_row rows
 opening_paths opening [] = refl
 opening_paths opening (row ∷ rows) = ap (λ (ps : List (List (List ℕ))). row.path ∷ ps) (opening_paths opening rows)
@@ -261,7 +247,7 @@ opening_paths opening (row ∷ rows) = ap (λ (ps : List (List (List ℕ))). row
 -- an opening that is right keeps the rules
 pub opening_stored : (opening : Opening) → IsOpening opening → IsStored (opened opening).book.rows (opened opening).work.jobs (opened opening).kept
 opening_stored opening right = record {
-  order = opening_order opening opening.rows right.apart;
+  order = opening_ascends opening [] right;
   once = λ x.
       omega (
         arith,

@@ -1,5 +1,5 @@
 -- The stored rows keep their rules, over plain lists: where rows step and stored ones go, where a job begins or ends, and where rows are stored.
-use Rattle.std.proofs.Common.{◌≡◌, ℕ, ◌+◌, ◌≤◌, Bool, true, false, not, inl, inr, List, [], ◌∷◌, ◌++◌, Option, Some, cond, refl, sym, ap, subst, ◌∙◌, map, find, Contains, arith}
+use Rattle.std.proofs.Common.{◌≡◌, ℕ, ◌+◌, ◌≤◌, Bool, true, false, not, ◌⊎◌, inl, inr, List, [], ◌∷◌, ◌++◌, Option, Some, cond, refl, sym, ap, subst, ◌∙◌, map, find, Contains, arith}
 use Rattle.std.specs.List.{filter, list_any}
 use Rattle.std.specs.Option.{option_map_or}
 use Rattle.std.proofs.lemmas.Bool.{and_parts, both_ways, eq-eqb, eqb-true, false_from_ne_true, not-true, or_left, or_parts}
@@ -16,14 +16,15 @@ use Rattle.mat_model.specs.declared.entries.Task.TheVariants as task
 use Rattle.mat_model.specs.Kept.{KeptRow, is_due, is_kept_clear, is_stored_as, kept_row, put_kept, store_rows}
 use Rattle.mat_model.specs.Rows.{are_apart, is_at_path, standing_row}
 use Rattle.mat_model.specs.WorkState.{Job, Lent, WorkState, has_loan, is_dirty, is_job, is_lent, is_other_job, lends_at, path_of_task}
-use Rattle.model_laws.specs.StoredRules.{IsStored, IsStoredOf, path_of_job, path_of_kept}
+use Rattle.model_laws.specs.KeptRules.{KeptAscend, path_of_kept}
+use Rattle.model_laws.specs.StoredRules.{IsStored, IsStoredOf, path_of_job}
 use Rattle.model_laws.specs.WorkRules.{IsLender, IsLentBy, IsReadOf, IsWork, claimed_by_part, loans_of}
 use Rattle.model_laws.proofs.BooksRows.{apart_same}
 use Rattle.model_laws.proofs.Changes.{standing-path, standing-tree}
 use Rattle.model_laws.proofs.ClaimLemmas.{disk_own_loan, loans_apart, own_loans_apart, part_loan}
-use Rattle.model_laws.proofs.DebrisOrder.{ascends-filter}
+use Rattle.model_laws.proofs.KeptOrder.{ascends_filtered, store_ascends, stored_cases}
 use Rattle.model_laws.proofs.Elements.{found_contains, found_passes}
-use Rattle.model_laws.proofs.StoredPuts.{is_kept_at, put_kept_ascends, put_kept_cases, put_kept_new, put_kept_there}
+use Rattle.model_laws.proofs.StoredPuts.{is_kept_at, put_kept_new, put_kept_there}
 use Rattle.model_laws.proofs.WorkBase.{Steps}
 use Rattle.model_laws.proofs.WorkClaims.{MayLend}
 
@@ -61,7 +62,7 @@ stored_no_task rows jobs kept one job stored among also =
 pub stored_steps : (next : ℕ) (place : Option (List (List ℕ))) (rows left : List Row) (jobs : List Job) (kept : List KeptRow) (test : KeptRow → Bool) →
     Steps next place rows left → IsStored rows jobs kept → IsStored left jobs (filter test kept)
 stored_steps next place rows left jobs kept test steps stored = record {
-  order = ascends-filter path_of_kept test kept stored.order;
+  order = ascends_filtered path_of_kept test kept stored.order;
   once = λ x.
       let most = stored.once x in
       omega (arith, most, covering-stored x kept jobs, covering-stored x (filter test kept) jobs, covering_rows-filter path_of_kept test x kept);
@@ -86,10 +87,23 @@ pub record MayStore (rows : List Row) (jobs : List Job) (kept : List KeptRow) (r
       (row.path ≡ part.path) × (row.tree ≡ part.tree)
   pub alone : (one : KeptRow) → Contains kept one → overlap one.path row.path ≡ true → one.path ≡ row.path
 
+-- what is stored once a row was put is that row, or was stored
+put_cases : (row : Row) (kept : List KeptRow) (one : KeptRow) → KeptAscend kept → Contains (put_kept (kept_row row) kept) one →
+    (kept_row row ≡ one) ⊎ Contains kept one
+put_cases row kept one up among =
+    elim (stored_cases (row ∷ []) kept one up among) [
+      | inl (other, within, same) ↦
+          elim (contains_cases row [] other within) [
+            | inl is ↦ inl (ap kept_row is ∙ same)
+            | inr (k, inside, at) ↦ absurd (omega arith)
+          ]
+      | inr (before, differ) ↦ inr before
+    ]
+
 store_one : (rows : List Row) (jobs : List Job) (kept : List KeptRow) (row : Row) → are_apart rows ≡ true → MayStore rows jobs kept row →
     IsStored rows jobs kept → IsStored rows jobs (put_kept (kept_row row) kept)
 store_one rows jobs kept row apart may stored = record {
-  order = put_kept_ascends (kept_row row) kept stored.order;
+  order = store_ascends (row ∷ []) kept stored.order;
   once = λ x. elim (is_kept_at row.path kept) as (λ b. is_kept_at row.path kept ≡ b → covering x (stored_paths (put_kept (kept_row row) kept) jobs) ≤ 1) [
     | true ↦ λ there.
         let most = stored.once x in
@@ -99,7 +113,7 @@ store_one rows jobs kept row apart may stored = record {
         omega (arith, most, covering-stored x kept jobs, covering-stored x (put_kept (kept_row row) kept) jobs, put_kept_new x (kept_row row) kept none)
   ] refl;
   stands = λ one other among also stands meet.
-      elim (put_kept_cases (kept_row row) kept one among) [
+      elim (put_cases row kept one stored.order among) [
         | inl same ↦
             let here : overlap row.path other.path ≡ true = subst (λ (k : KeptRow). overlap k.path other.path ≡ true) (sym same) meet in
             let is : row ≡ other = apart_same rows row other apart may.among also here in
@@ -107,7 +121,7 @@ store_one rows jobs kept row apart may stored = record {
         | inr before ↦ stored.stands one other before also stands meet
       ];
   lent = λ one job part among also is meet.
-      elim (put_kept_cases (kept_row row) kept one among) [
+      elim (put_cases row kept one stored.order among) [
         | inl same ↦
             let fits = may.lent job part also is (subst (λ (k : KeptRow). overlap k.path part.path ≡ true) (sym same) meet) in
             subst (λ (k : KeptRow). IsStoredOf k part.path part.tree) same (record { path = fits.0; tree = fits.1 })
@@ -125,14 +139,14 @@ store_one rows jobs kept row apart may stored = record {
         (subst (λ (p : List (List ℕ)). Contains (map path_of_kept kept) p) same (contains_map path_of_kept kept one among))))
 
 -- a row that may be stored still may once another one was
-still_may : (rows : List Row) (jobs : List Job) (kept : List KeptRow) (row other : Row) → are_apart rows ≡ true → Contains rows row →
+still_may : (rows : List Row) (jobs : List Job) (kept : List KeptRow) (row other : Row) → KeptAscend kept → are_apart rows ≡ true → Contains rows row →
     MayStore rows jobs kept other → MayStore rows jobs (put_kept (kept_row row) kept) other
-still_may rows jobs kept row other apart among may = record {
+still_may rows jobs kept row other up apart among may = record {
   among = may.among;
   free = may.free;
   lent = may.lent;
   alone = λ one within meet.
-      elim (put_kept_cases (kept_row row) kept one within) [
+      elim (put_cases row kept one up within) [
         | inl same ↦
             let here : overlap row.path other.path ≡ true = subst (λ (k : KeptRow). overlap k.path other.path ≡ true) (sym same) meet in
             sym (ap (λ (k : KeptRow). k.path) same) ∙ ap (λ (r : Row). r.path) (apart_same rows row other apart among may.among here)
@@ -147,7 +161,7 @@ store_all rows jobs kept [] apart may stored = stored
 store_all rows jobs kept (row ∷ some) apart may stored =
     let first = may row (contains_first row some) in
     store_all rows jobs (put_kept (kept_row row) kept) some apart
-    (λ other among. still_may rows jobs kept row other apart first.among (may other (contains_more row some other among)))
+    (λ other among. still_may rows jobs kept row other stored.order apart first.among (may other (contains_more row some other among)))
     (store_one rows jobs kept row apart first stored)
 
 -- a row that stands may be stored
@@ -194,7 +208,7 @@ stored_flushed next rows work kept rules stored =
 pub stored_begun : (rows : List Row) (jobs : List Job) (kept : List KeptRow) (job : Job) → is_lent (path_of_job job) jobs ≡ false → MayLend rows jobs job.lent →
     IsStored rows jobs kept → IsStored rows (jobs ++ job ∷ []) (filter (is_kept_clear (path_of_job job)) kept)
 stored_begun rows jobs kept job free may stored = record {
-  order = ascends-filter path_of_kept test kept stored.order;
+  order = ascends_filtered path_of_kept test kept stored.order;
   once = λ x.
       let most = covering-cons (path_of_job job) (stored_paths (filter test kept) jobs)
       (none_stored (path_of_job job) (filter test kept) jobs

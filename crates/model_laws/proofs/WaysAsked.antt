@@ -22,7 +22,7 @@ use Rattle.mat_model.specs.Rows.{cover, is_at_path}
 use Rattle.mat_model.specs.WorkState.{WayOf, held, lies_at, way_declared, ways_after}
 use Rattle.model_laws.specs.WorkRules.{IsPlain}
 use Rattle.model_laws.proofs.Elements.{found_contains, found_passes}
-use Rattle.model_laws.proofs.RowCases.{either_served}
+use Rattle.model_laws.proofs.RowCases.{either_passed, either_served}
 
 -- what becomes of the ways of rows
 abbrev pub WaysGo : ℕ → Asked → List Row → List WayOf → List WayOf → Type 0
@@ -59,10 +59,6 @@ either_ways : (number : ℕ) (request : Asked) (rows : List Row) (ways first sec
     WaysGo number request rows ways second → WaysGo number request rows ways (cond b first second)
 either_ways number request rows ways first second true one other = one
 either_ways number request rows ways first second false one other = other
-
-either_passed : (P : Passed → Type 0) (b : Bool) (first second : Passed) → P first → P second → P (cond b first second)
-either_passed P true first second one other = one
-either_passed P false first second one other = other
 
 -- the ways after a request
 pub asked_ways : (number : ℕ) (context : RequestContext) (request : Asked) (book : Book) (ways : List WayOf) →

@@ -21,7 +21,8 @@ use Rattle.model_laws.specs.RowRules.{AreStampedBelow}
 use Rattle.model_laws.specs.WorkRules.{IsJob, IsLender, IsLentBy, IsPartBelow, IsWork, are_reading, owns_by}
 use Rattle.model_laws.proofs.BooksLists.{contains_any}
 use Rattle.model_laws.proofs.Coverings.{covering-add, covering_claims, paths-map}
-use Rattle.model_laws.proofs.DebrisOrder.{Ascends, add_ascends, ascends-filter, ascends-map}
+use Rattle.model_laws.proofs.DebrisOrder.{Ascends, add_ascends, ascends-map}
+use Rattle.model_laws.proofs.KeptOrder.{ascends_filtered}
 use Rattle.model_laws.proofs.Elements.{found_contains, found_passes}
 use Rattle.model_laws.proofs.StampLemmas.{one_stamp}
 use Rattle.model_laws.proofs.WorkBase.{Base, Steps, base_of, step_base}
@@ -188,7 +189,7 @@ kept_make next caller path stamp book work apart stamped may kept = record {
       (λ other among wiped is within. left other among wiped is within))
       refl rules (λ other among wiped is too. absurd cc)
       (λ other among. (filtered_contains (λ (q : List (List ℕ)). not (same_names q path)) work.dirty other among).0);
-  order = ascends-filter path_of_debris (is_not_below path) work.debris kept.order;
+  order = ascends_filtered path_of_debris (is_not_below path) work.debris kept.order;
   claimed = make_claims book.rows work.jobs work.dirty work.debris job path stamp may.row apart (λ other among. (kept.base.each other among).lent) refl may.among
       may.placed may.lies may.free may.clear lends kept.claimed;
 }

@@ -24,7 +24,8 @@ use Rattle.std.specs.Option.{option_map_or}
 use Rattle.model_laws.proofs.Apart.{apart-map}
 use Rattle.model_laws.proofs.Changes.{standing-path}
 use Rattle.model_laws.proofs.Coverings.{covering_within, paths-map, row_covers}
-use Rattle.model_laws.proofs.DebrisOrder.{Ascends, ascends-filter, ascends-map, put_apart}
+use Rattle.model_laws.proofs.DebrisOrder.{Ascends, ascends-map, put_apart}
+use Rattle.model_laws.proofs.KeptOrder.{ascends_filtered}
 use Rattle.model_laws.proofs.Elements.{found_contains, found_passes}
 use Rattle.model_laws.proofs.WorkBase.{Base, HasLying, lying_row}
 use Rattle.model_laws.proofs.WorkBegins.{Kept, put_keeps}
@@ -134,7 +135,7 @@ ending_wiped next is_read jobs path loose o rows work alone ending = record {
       (λ same. alone job among (subst (λ (p : List (List ℕ)). job.task ≡ task.Wipe p) (sym at ∙ same_names-eq one.path path same) is)) in
       subst (λ (p : List (List ℕ)). Contains (map path_of_debris (filter (is_elsewhere path) work.debris)) p) at
       (contains_map path_of_debris (filter (is_elsewhere path) work.debris) one (contains_filter (is_elsewhere path) work.debris one (ap not other) lying)));
-  order = ascends-filter path_of_debris (is_elsewhere path) work.debris ending.order;
+  order = ascends_filtered path_of_debris (is_elsewhere path) work.debris ending.order;
   claimed = taken_over is_read (task.Wipe path) loose rows work.dirty work.debris rows work.dirty (filter (is_elsewhere path) work.debris) work.jobs
       (wiped_takes is_read path rows work.dirty work.debris) ending.claimed;
   lent = ending.lent;

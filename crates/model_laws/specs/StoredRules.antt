@@ -4,13 +4,10 @@ use Rattle.std.specs.List.{Contains}
 use Rattle.mat_path.specs.Covering.{covering}
 use Rattle.mat_path.specs.Names.{overlap}
 use Rattle.mat_tree.specs.declared.flat.Flat.{Flat}
-use Rattle.mat_tree.specs.Trees.{ascends_by}
 use Rattle.mat_model.specs.declared.book.Row.{Row}
 use Rattle.mat_model.specs.Kept.{KeptRow}
 use Rattle.mat_model.specs.WorkState.{Job, Lent, path_of_task}
-
-abbrev pub path_of_kept : KeptRow → List (List ℕ)
-path_of_kept kept = kept.path
+use Rattle.model_laws.specs.KeptRules.{KeptAscend, path_of_kept}
 
 -- the path of a job's task
 abbrev pub path_of_job : Job → List (List ℕ)
@@ -24,7 +21,7 @@ pub record IsStoredOf (kept : KeptRow) (place : List (List ℕ)) (nodes : List F
 -- the stored rows keep their rules beside some rows and jobs
 pub record IsStored (rows : List Row) (jobs : List Job) (kept : List KeptRow) : Type 0 where
   -- they ascend strictly by path
-  pub order : ascends_by path_of_kept kept ≡ true
+  pub order : KeptAscend kept
   -- no path is covered twice by them and by the tasks of jobs
   pub once : (path : List (List ℕ)) → covering path (map path_of_kept kept ++ map path_of_job jobs) ≤ 1
   -- a stored row that overlaps a row that stands is at its path, and has its tree

@@ -17,6 +17,7 @@ use Rattle.mat_model.specs.declared.requests.Asked.{Asked}
 use Rattle.mat_model.specs.declared.requests.Asked.TheVariants as asked
 use Rattle.mat_model.specs.Books.{are_ascending}
 use Rattle.mat_model.specs.History.{Point}
+use Rattle.mat_model.specs.Kept.{KeptRow}
 use Rattle.mat_model.specs.Legal.{IsAskable}
 use Rattle.mat_model.specs.Openings.{is_row_placed, path_of_row}
 use Rattle.mat_model.specs.Rows.{are_apart}
@@ -158,12 +159,14 @@ abbrev pub IsPartPlaced : Option Lent → Type 0
 IsPartPlaced None = Unit {0}
 IsPartPlaced (Some lent) = list_all (is_placed lent.path) lent.tree ≡ true
 
--- the trees of some rows, and of the parts that jobs read, are at paths, and so is what ways read
-pub record IsPlaced (rows : List Row) (work : WorkState) : Type 0 where
+-- the trees of some rows, of the parts that jobs read and of stored rows are at paths, and so is what ways read
+pub record IsPlaced (rows : List Row) (work : WorkState) (kept : List KeptRow) : Type 0 where
   -- each node of a row's tree is at a path
   pub reach : (row : Row) → Contains rows row → is_row_placed row ≡ true
   -- and each node of a part's that a job reads
   pub lent : (job : Job) → Contains work.jobs job → IsPartPlaced job.lent
+  -- and each node of a stored row's tree
+  pub stored : (one : KeptRow) → Contains kept one → list_all (is_placed one.path) one.tree ≡ true
   -- a row whose bytes are held is a plain file
   pub held : (row : Row) → Contains rows row → IsHeldPlain (way_of row.stamp work.ways) row.tree
   -- each node of a copied row's tree is at a path below where it was copied from

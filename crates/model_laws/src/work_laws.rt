@@ -6,6 +6,7 @@ ghost use Rattle.mat_model.specs.Legal.{ComesInOrder, IsEach};
 ghost use Rattle.mat_model.specs.Openings.{IsOpening};
 ghost use Rattle.mat_model.specs.Rows.{are_apart};
 ghost use Rattle.model_laws.specs.RowRules.{AreStampedBelow};
+ghost use Rattle.model_laws.specs.KeptRules.{KeptAscend};
 ghost use Rattle.model_laws.specs.StoredRules.{IsStored};
 ghost use Rattle.model_laws.specs.WorkRules.{AsksAtPaths, IsPlaced, IsWork};
 
@@ -32,21 +33,21 @@ pub fn opening_keeps_work()
 /// An entry that asks at paths keeps trees and ways at paths, and held rows plain files, whatever else it does.
 pub fn entry_keeps_placed()
     ensures { (point : Point) (entry : Entry) → are_apart point.book.rows ≡ true → AreStampedBelow (next_number point) point.book.rows →
-        AsksAtPaths point entry → IsPlaced point.book.rows point.work →
-        IsPlaced (after point entry).book.rows (after point entry).work }
+        KeptAscend point.kept → AsksAtPaths point entry → IsPlaced point.book.rows point.work point.kept →
+        IsPlaced (after point entry).book.rows (after point entry).work (after point entry).kept }
 {}
 
 /// Behind any point, entries that ask at paths do so too.
 pub fn history_keeps_placed()
     ensures { (point : Point) (later : List Entry) → are_apart point.book.rows ≡ true → AreStampedBelow (next_number point) point.book.rows →
-        IsEach AsksAtPaths point later → IsPlaced point.book.rows point.work →
-        IsPlaced (after_all point later).book.rows (after_all point later).work }
+        KeptAscend point.kept → IsEach AsksAtPaths point later → IsPlaced point.book.rows point.work point.kept →
+        IsPlaced (after_all point later).book.rows (after_all point later).work (after_all point later).kept }
 {}
 
 /// From an opening that is right, every history that asks at paths leads to trees and ways that lie at paths.
 pub fn opening_keeps_placed()
     ensures { (opening : Opening) (history : List Entry) → IsOpening opening → IsEach AsksAtPaths (opened opening) history →
-        IsPlaced (book_of opening history).rows (point_of opening history).work }
+        IsPlaced (book_of opening history).rows (point_of opening history).work (point_of opening history).kept }
 {}
 
 /// An entry whose work comes in order keeps the rules of the stored rows, where the work state keeps its own.
