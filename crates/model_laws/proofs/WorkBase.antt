@@ -1,7 +1,7 @@
 -- The rules of a work state but for its claims, over plain lists: how they are kept where rows step, jobs come and go, and debris grows.
 use Rattle.std.proofs.Common.{◌≡◌, ℕ, ◌+◌, ◌<◌, nat_lt, Bool, true, false, not, ◌⊎◌, inl, inr, List, [], ◌∷◌, ◌++◌, Option, Some, None, cond, refl, sym, ap, subst, ◌∙◌, map, Contains, arith}
 use Rattle.std.specs.List.{filter, list_all, list_any}
-use Rattle.std.proofs.lemmas.Bool.{and_from, and_parts, both_ways, eqb-true, not-true}
+use Rattle.std.proofs.lemmas.Bool.{and_from, and_parts, both_ways, eqb-true, not-true, true_from_ne_false}
 use Rattle.std.proofs.lemmas.Bool.Decides.{nat_tests}
 use Rattle.std.proofs.lemmas.List.Elements.{All-contains}
 use Rattle.mat_path.specs.Names.{overlap}
@@ -206,33 +206,49 @@ step_lent next place rows left (Some part) steps less lent = λ row among is.
     let from = lent was.old was.among (sym was.stamp ∙ is) in
     record { path = was.path ∙ from.path; stands = was.stands ∙ from.stands; tree = was.tree ∙ from.tree }
 
+-- a row that is left under the stamp of one that was there is at its path, and stands as it did
+still_row : (next : ℕ) (place : Option (List (List ℕ))) (rows left : List Row) (old row : Row) → AreStampedBelow next rows → Steps next place rows left →
+    Contains rows old → Contains left row → row.stamp ≡ old.stamp → (row.path ≡ old.path) × (row.stands ≡ old.stands) × (row.stamp < next)
+still_row next place rows left old row stamped steps there within same =
+    let early : old.stamp < next = All-contains (λ (r : Row). r.stamp < next) rows old stamped.below there in
+    let less : row.stamp < next = omega (arith, same, early) in
+    by less (was_there next place rows row (steps row within) less)
+  where
+    by : row.stamp < next → Was rows row → (row.path ≡ old.path) × (row.stands ≡ old.stands) × (row.stamp < next)
+    by less was =
+        let stamp : was.old.stamp ≡ old.stamp = sym was.stamp ∙ same in
+        let one : was.old ≡ old = one_stamp rows was.old old stamped.differ was.among there stamp in
+        (was.path ∙ ap (λ (r : Row). r.path) one, was.stands ∙ ap (λ (r : Row). r.stands) one, less)
+
+-- a row that lies where no removed one did has its stamp among those that are left
+still_there : (rows left : List Row) (path : List (List ℕ)) (old : Row) → Contains rows old → old.path ≡ path →
+    is_kept_dirty (removed_rows rows left) path ≡ true → list_any (has_stamp old.stamp) left ≡ true
+still_there rows left path old there at keeps =
+    true_from_ne_false (list_any (has_stamp old.stamp) left)
+    (λ gone.
+    both_ways (list_any (is_at_path path) (removed_rows rows left)) (not-true (list_any (is_at_path path) (removed_rows rows left)) keeps)
+    (contains_any (is_at_path path) (removed_rows rows left) old (contains_filter (is_gone left) rows old (ap not gone) there)
+    (subst (λ (p : List (List ℕ)). is_at_path p old ≡ true) at (same_names-refl old.path))))
+
 -- a dirty path that isn't that of a removed row is that of one that stays
 pub step_dirty : (next : ℕ) (place : Option (List (List ℕ))) (rows left : List Row) (dirty : List (List (List ℕ))) →
     AreStampedBelow next rows → Steps next place rows left → ((path : List (List ℕ)) → Contains dirty path → list_any (lies_at path) rows ≡ true) →
     (path : List (List ℕ)) → Contains (filter (is_kept_dirty (removed_rows rows left)) dirty) path →
     (row : Row) × Contains left row × (row.path ≡ path) × (row.stands ≡ false) × (row.stamp < next)
 step_dirty next place rows left dirty stamped steps lying path among =
-    let (was_dirty, keeps) = filtered_contains (is_kept_dirty (removed_rows rows left)) dirty path among in
-    let (old, there, at, lies) = lying_row rows path (lying path was_dirty) in
-    let stays : is_gone left old ≡ false = by (is_gone left old) old refl there at (not-true (list_any (is_at_path path) (removed_rows rows left)) keeps) in
-    let (row, within, same) = any_contains (has_stamp old.stamp) left (still (list_any (has_stamp old.stamp) left) stays) in
-    let stamp : row.stamp ≡ old.stamp = eqb-true row.stamp old.stamp same in
-    let early : old.stamp < next = All-contains (λ (r : Row). r.stamp < next) rows old stamped.below there in
-    let less : row.stamp < next = omega (arith, stamp, early) in
-    let was = was_there next place rows row (steps row within) less in
-    let one : was.old ≡ old = one_stamp rows was.old old stamped.differ was.among there (sym was.stamp ∙ stamp) in
-    (row, within, was.path ∙ ap (λ (r : Row). r.path) one ∙ at, was.stands ∙ ap (λ (r : Row). r.stands) one ∙ lies, less)
+    by (filtered_contains (is_kept_dirty (removed_rows rows left)) dirty path among).1
+    (lying_row rows path (lying path (filtered_contains (is_kept_dirty (removed_rows rows left)) dirty path among).0))
   where
-    still : (b : Bool) → not b ≡ false → b ≡ true
-    still true h = refl
-    still false h = cc
+    stays : (old row : Row) → Contains rows old → old.path ≡ path → old.stands ≡ false → Contains left row → row.stamp ≡ old.stamp →
+        (one : Row) × Contains left one × (one.path ≡ path) × (one.stands ≡ false) × (one.stamp < next)
+    stays old row there at lies within same =
+        let still = still_row next place rows left old row stamped steps there within same in (row, within, still.0 ∙ at, still.1 ∙ lies, still.2)
 
-    by : (b : Bool) (old : Row) → is_gone left old ≡ b → Contains rows old → old.path ≡ path → list_any (is_at_path path) (removed_rows rows left) ≡ false → b ≡ false
-    by false old is there at none = refl
-    by true old is there at none =
-        absurd (both_ways (list_any (is_at_path path) (removed_rows rows left)) none
-        (contains_any (is_at_path path) (removed_rows rows left) old (contains_filter (is_gone left) rows old is there)
-        (subst (λ (p : List (List ℕ)). is_at_path p old ≡ true) at (same_names-refl old.path))))
+    by : is_kept_dirty (removed_rows rows left) path ≡ true → HasLying rows path →
+        (row : Row) × Contains left row × (row.path ≡ path) × (row.stands ≡ false) × (row.stamp < next)
+    by keeps (old, there, at, lies) =
+        let (row, within, same) = any_contains (has_stamp old.stamp) left (still_there rows left path old there at keeps) in
+        stays old row there at lies within (eqb-true row.stamp old.stamp same)
 
 -- the rules are kept where rows step, the marks of removed ones go and debris grows
 pub step_base : (next : ℕ) (place : Option (List (List ℕ))) (rows left : List Row) (jobs : List Job) (dirty : List (List (List ℕ)))
