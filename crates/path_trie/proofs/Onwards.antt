@@ -6,7 +6,7 @@ use Rattle.std.proofs.Common.{◌≡◌, ℕ, zero, suc, Bool, true, false, not,
 use Rattle.std.proofs.lemmas.Bool.{both_ways}
 use Rattle.std.specs.Cmp.{first_so, second_so}
 use Rattle.std.specs.Cmp.Lexicographic.{texts_ties}
-use Rattle.std.specs.List.{find, list_all, slice_get}
+use Rattle.std.specs.List.{filter, find, list_all, slice_get}
 use Rattle.std.specs.Option.{option_map}
 use Rattle.std.specs.Ordering.{is_lt, ordering_reverse, ordering_then}
 use Rattle.std.specs.declared.option.Option.{Option}
@@ -16,6 +16,7 @@ use Rattle.path_trie.specs.declared.entry.Entry.{Entry}
 use Rattle.path_trie.specs.declared.node.Node.{Node}
 use Rattle.path_trie.specs.Entries.{ascends, is_at, is_before, is_behind, is_from, is_less, is_next_under, is_under, value_of}
 use Rattle.path_trie.specs.Nodes.{below_node}
+use Rattle.path_trie.proofs.Lists.{filter_in}
 use Rattle.path_trie.specs.Roots.{is_placed, kept_if, shown, shown_all}
 
 -- ---- what is kept, and what is seen
@@ -53,6 +54,15 @@ shown_length (x ∷ xs) = let e = shown_length xs in omega (arith, e)
 
 pub counted_shown : {V : Type 0} (root : Node (Entry V)) (now : List (Entry V)) (k : ℕ) → shown_all root ≡ now → k ≡ length (below_node root) → k ≡ length now
 counted_shown root now k v e = e ∙ shown_length (below_node root) ∙ ap length v
+
+count_shown : {V : Type 0} (p : Entry (Entry V) → Bool) (q : Entry V → Bool) → ((x : Entry (Entry V)) → p x ≡ q (shown x)) → (xs : List (Entry (Entry V)))
+    → length (filter p xs) ≡ length (filter q (map shown xs))
+count_shown p q same xs = shown_length (filter p xs) ∙ ap length (sym (filter_in shown q p (λ x. sym (same x)) xs))
+
+pub under_shown : {V : Type 0} (root : Node (Entry V)) (names path : List (List ℕ)) (now : List (Entry V)) (k : ℕ) → names ≡ path → shown_all root ≡ now
+    → k ≡ length (filter (is_under names) (below_node root)) → k ≡ length (filter (is_under path) now)
+under_shown root names path now k n v e =
+    e ∙ count_shown (is_under names) (is_under path) (λ x. ap (λ p. is_under p x) n) (below_node root) ∙ ap (λ t. length (filter (is_under path) t)) v
 
 -- ---- one test for another
 

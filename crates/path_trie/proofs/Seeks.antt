@@ -1,19 +1,20 @@
 -- The first entries from some names on, and those at prefixes.
-use Rattle.std.proofs.Common.{◌≡◌, ◌<◌, ◌≤◌, ◌-◌, ℕ, zero, suc, Bool, true, false, cond, ◌&&◌, List, [], ◌∷◌, ◌++◌, map, length, take, drop, get_or, nat_eq, refl, ◌∙◌, sym, ap, arith}
+use Rattle.std.proofs.Common.{◌≡◌, ◌<◌, ◌≤◌, ◌-◌, ℕ, zero, suc, Bool, true, false, cond, ◌&&◌, List, [], ◌∷◌, ◌++◌, map, length, take, drop, get_or, append-nil, nat_eq, refl, ◌∙◌, sym, ap, arith}
 use Rattle.std.proofs.lemmas.Bool.{and_from, le-leb, leb-false, leb-true, lt-leb}
 use Rattle.std.proofs.Math.Dec.{eqb-suc-zero}
-use Rattle.std.proofs.lemmas.List.{length-drop, map-append, take_all, take-append-drop}
+use Rattle.std.proofs.lemmas.List.{length-drop, length-map, map-append, take_all, take-append-drop}
 use Rattle.std.specs.Cmp.{second_so}
 use Rattle.std.specs.List.{filter, find, list_all, slice_get}
 use Rattle.std.specs.Option.{option_map}
 use Rattle.std.specs.Prelude.{nat_le}
 use Rattle.std.specs.declared.option.Option.{Option}
 use Rattle.std.specs.declared.option.Option.TheVariants.{Some, None}
-use Rattle.mat_path.specs.Names.{same_name}
+use Rattle.mat_path.specs.Names.{is_prefix, same_name}
+use Rattle.mat_path.proofs.SameNames.{same_name-refl}
 use Rattle.path_trie.specs.declared.entry.Entry.{Entry}
 use Rattle.path_trie.specs.declared.node.Node.{Node, out-Node}
 use Rattle.path_trie.specs.declared.node.Edge.{Edge, out-Edge}
-use Rattle.path_trie.specs.Entries.{is_above, is_behind, is_high, value_of}
+use Rattle.path_trie.specs.Entries.{is_above, is_behind, is_high, is_under, value_of}
 use Rattle.path_trie.specs.Nodes.{own, put_in, has_some, are_in_order, are_well, below_node, below_edge, below_all, comes_before, comes_behind, edge_name, is_well_edge}
 use Rattle.path_trie.proofs.Lists.{all_right, find_first, first_of}
 use Rattle.path_trie.proofs.Order.{asc_right}
@@ -217,3 +218,47 @@ high_nowhere {T} n names least split none =
     ∙ ap (λ t. first_of (filter (is_high [] least) t)) (below_node_out n)
     ∙ ap first_of (high_past (out-Node T n).value [] least (below_all (out-Node T n).edges.items) none
     ∙ alike_below (λ n. true) (is_high [] least) false (λ n x h. refl) (out-Node T n).edges.items (all_of (map edge_name (out-Node T n).edges.items)))))
+
+-- ---- at and below some names
+
+under_other : {T : Type 0} (name : List ℕ) (more : List (List ℕ)) (n : List ℕ) (x : Entry T) → same_name name n ≡ false → is_under (name ∷ more) (put_in n x) ≡ false
+under_other name more n x e = ap (λ b. b && is_prefix more x.path) e
+
+under_same : {T : Type 0} (name : List ℕ) (more : List (List ℕ)) (x : Entry T) → is_under (name ∷ more) (put_in name x) ≡ is_under more x
+under_same name more x = ap (λ b. b && is_prefix more x.path) (same_name-refl name)
+
+under_past : {T : Type 0} (v : Option T) (name : List ℕ) (more : List (List ℕ)) (xs : List (Entry T)) → filter (is_under (name ∷ more)) (own v ++ xs) ≡ filter (is_under (name ∷ more)) xs
+under_past None name more xs = refl
+under_past (Some v) name more xs = refl
+
+under_below : {T : Type 0} (n : Node T) (es : List (Edge T)) (names : List (List ℕ)) (name : List ℕ) (more : List (List ℕ)) (all : List (Entry T))
+    → es ≡ (out-Node T n).edges.items → names ≡ name ∷ more → filter (is_under (name ∷ more)) (below_all es) ≡ all
+    → length all ≡ length (filter (is_under names) (below_node n))
+under_below {T} n es names name more all same split e =
+    ap length
+    (sym (ap (λ p. filter (is_under p) (below_node n)) split ∙ ap (filter (is_under (name ∷ more))) (below_node_out n)
+    ∙ under_past (out-Node T n).value name more (below_all (out-Node T n).edges.items)
+    ∙ ap (λ t. filter (is_under (name ∷ more)) (below_all t)) (sym same) ∙ e))
+
+pub under_found : {T : Type 0} (n : Node T) (es : List (Edge T)) (names : List (List ℕ)) (name : List ℕ) (more : List (List ℕ)) (k : ℕ) (e : Edge T)
+    → es ≡ (out-Node T n).edges.items → names ≡ name ∷ more → are_well es ≡ true → k < length es → get_or (map edge_name es) k name ≡ name → e ≡ get_or es k e
+    → length (filter (is_under more) (below_node (out-Edge T e).node)) ≡ length (filter (is_under names) (below_node n))
+under_found {T} n es names name more k e same split h l found is =
+    sym (length-map (filter (is_under more) (below_node (out-Edge T e).node)) (put_in (edge_name e)))
+    ∙ ap length (sym (append-nil (map (put_in (edge_name e)) (filter (is_under more) (below_node (out-Edge T e).node)))))
+    ∙ under_below n es names name more _ same split
+    (test_found (is_under (name ∷ more)) (is_under more) es name k e (under_other name more) (under_same name more) h l found is)
+
+pub under_absent : {T : Type 0} (n : Node T) (es : List (Edge T)) (names : List (List ℕ)) (name : List ℕ) (more : List (List ℕ)) (k : ℕ)
+    → es ≡ (out-Node T n).edges.items → names ≡ name ∷ more
+    → list_all (comes_before name) (map edge_name (take k es)) ≡ true → list_all (comes_behind name) (map edge_name (drop k es)) ≡ true
+    → 0 ≡ length (filter (is_under names) (below_node n))
+under_absent n es names name more k same split front back =
+    under_below n es names name more [] same split (test_none (is_under (name ∷ more)) es name k (under_other name more) front back)
+
+pub under_all : {T : Type 0} (xs : List (Entry T)) (names : List (List ℕ)) → names ≡ [] → length xs ≡ length (filter (is_under names) xs)
+under_all xs names e = by xs ∙ ap (λ p. length (filter (is_under p) xs)) (sym e)
+  where
+    by : {T : Type 0} (xs : List (Entry T)) → length xs ≡ length (filter (is_under []) xs)
+    by [] = refl
+    by (x ∷ xs) = let f = by xs in omega (arith, f)

@@ -1,8 +1,8 @@
 // What stands at some names below a node.
 ghost use Rattle.std.specs.Prelude.{◌≡◌, ◌<◌, ◌≤◌, true, false, length, map, drop, take, slice_index_or, IfErr, IfOk};
-ghost use Rattle.std.specs.List.{list_all};
+ghost use Rattle.std.specs.List.{filter, list_all};
 ghost use Rattle.std.specs.Option.{option_copied};
-ghost use Rattle.path_trie.specs.Entries.{value_at};
+ghost use Rattle.path_trie.specs.Entries.{is_under, value_at};
 ghost use Rattle.path_trie.specs.Nodes.{are_in_order, below_node, comes_before, comes_behind, edge_name, is_well};
 
 use crate::node::{Edge, Node};
@@ -30,6 +30,20 @@ pub(crate) fn get_at<'a, T>(node: &'a Node<T>, names: &[Name]) -> Option<&'a T>
         [name, more @ ..] => match place_of(&node.edges, name) {
             Ok(place) => get_at(&node.edges[place].node, more),
             Err(_) => None,
+        },
+    }
+}
+
+// How many values stand at and below these names below a node.
+pub(crate) fn count_at<T>(node: &Node<T>, names: &[Name]) -> usize
+    requires { is_well node.now ≡ true }
+    ensures { result ≡ length (filter (is_under names.now) (below_node node.now)) }
+{
+    match names {
+        [] => node.len(),
+        [name, more @ ..] => match place_of(&node.edges, name) {
+            Ok(place) => count_at(&node.edges[place].node, more),
+            Err(_) => 0,
         },
     }
 }

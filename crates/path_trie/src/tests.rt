@@ -185,6 +185,7 @@ fn what_is_found_from_some_paths_on(rt: HostRuntime) -> Result<(), Fail> {
     let top = Path::read(rt.alloc(), b"a")?;
     let low = Path::read(rt.alloc(), b"a/b")?;
     assert_eq!(rt; value_of(trie.next_under(&top, &low)), Some(3));
+    assert_eq!(rt; (trie.count_under(&top), trie.is_empty()), (2, false));
     cover_is_shortest::<u8>();
     Ok(())
 }

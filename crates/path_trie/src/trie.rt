@@ -7,7 +7,7 @@ ghost use Rattle.path_trie.specs.Entries.{ascends, both, cover_of, is_behind, is
 
 use crate::change::{put_at, take_at};
 use crate::entry::Entry;
-use crate::find::get_at;
+use crate::find::{count_at, get_at};
 use crate::node::Node;
 use crate::pick::value_at;
 use crate::seek::{behind_at, high_at};
@@ -145,6 +145,13 @@ impl<V: Drop> Trie<V> {
         }
         self.is_in_order();
         parts(if_under(top, self.entry_behind(last)))
+    }
+
+    /// How many entries are at and below a path.
+    pub fn count_under(&self, path: &Path) -> usize
+        ensures { result ≡ length (filter (is_under path.now) self.now) }
+    {
+        count_at(&self.root, path.names())
     }
 
     /// The entry at the shortest prefix of a path that has at least so many names: with one name more than the last that was found
