@@ -45,12 +45,12 @@ map_alike {A = A} {B = B} f g (x ∷ xs) alike =
     ap₂ (λ (y : B) (ys : List B). y ∷ ys) (alike x (contains_first x xs)) (map_alike f g xs (λ y among. alike y (contains_more x xs y among)))
 
 -- a ticket that is answered by one of two tests, where these are the same
-answered_alike : (number : ℕ) (given : Answer) (ticket : Ticket) (a b : Bool) → a ≡ b →
+pub answered_alike : (number : ℕ) (given : Answer) (ticket : Ticket) (a b : Bool) → a ≡ b →
     cond a (with_answer number given ticket) ticket ≡ cond b (with_answer number given ticket) ticket
 answered_alike number given ticket a b same = ap (λ (c : Bool). cond c (with_answer number given ticket) ticket) same
 
 -- two tests of an open ticket
-if_open : (ticket : Ticket) (a b : Bool) → (is_open ticket ≡ true → a ≡ b) → (is_open ticket && a) ≡ (is_open ticket && b)
+pub if_open : (ticket : Ticket) (a b : Bool) → (is_open ticket ≡ true → a ≡ b) → (is_open ticket && a) ≡ (is_open ticket && b)
 if_open ticket a b same =
     elim (is_open ticket) as (λ o. (o ≡ true → a ≡ b) → (o && a) ≡ (o && b)) [ true ↦ λ lies. lies refl | false ↦ λ lies. refl ] same
 

@@ -55,3 +55,4 @@ pub mod RecordedStands
 pub mod StoredPuts
 pub mod StoredLemmas
 pub mod StoredKept
+pub mod EndsBelow

@@ -1,12 +1,15 @@
 -- Tickets by the paths that they ask for, where a book finds them without looking at the trees of rows.
-use Rattle.std.specs.Prelude.{◌&&◌, ℕ, Bool, not, if◌then◌else◌, List, find}
+use Rattle.std.specs.Prelude.{◌&&◌, ℕ, Bool, not, if◌then◌else◌, List, map, find, Option, Some, None}
 use Rattle.std.specs.List.{list_any}
 use Rattle.std.specs.Option.{option_map_or}
 use Rattle.mat_path.specs.Names.{is_prefix}
 use Rattle.mat_model.specs.declared.answers.Answer.{Answer}
 use Rattle.mat_model.specs.declared.answers.Answer.TheVariants as answer
+use Rattle.mat_model.specs.declared.book.Book.{Book}
 use Rattle.mat_model.specs.declared.book.Row.{Row}
 use Rattle.mat_model.specs.declared.book.Ticket.{Ticket}
+use Rattle.mat_model.specs.declared.entries.Outcome.{Outcome}
+use Rattle.mat_model.specs.declared.entries.Outcome.TheVariants as outcome
 use Rattle.mat_model.specs.Openings.{path_of_row}
 use Rattle.mat_model.specs.Rows.{covers}
 use Rattle.mat_model.specs.Tickets.{is_open, with_answer}
@@ -38,3 +41,24 @@ top_of rows path = option_map_or path_of_row (find (is_row_above path) rows) pat
 abbrev pub lost_below : List (List ℕ) → Row → ℕ → Ticket → Ticket
 lost_below path new number ticket =
     if asks_below path ticket && not (covers ticket.asked new) then with_answer number answer.Undeclared ticket else ticket
+
+-- the failure with which a make ended, as an answer, and that of a wipe, if they failed
+abbrev pub failure_of_make : Outcome → Option Answer
+failure_of_make outcome.Made = None
+failure_of_make outcome.Wiped = None
+failure_of_make (outcome.Missing digest) = Some (answer.Missing digest)
+failure_of_make (outcome.Corrupt wanted found) = Some (answer.Corrupt wanted found)
+failure_of_make (outcome.Fault note) = Some (answer.Fault note)
+failure_of_make outcome.NoMemory = Some answer.NoMemory
+
+abbrev pub failure_of_wipe : Outcome → Option Answer
+failure_of_wipe outcome.Made = None
+failure_of_wipe outcome.Wiped = None
+failure_of_wipe (outcome.Missing digest) = None
+failure_of_wipe (outcome.Corrupt wanted found) = None
+failure_of_wipe (outcome.Fault note) = Some (answer.Fault note)
+failure_of_wipe outcome.NoMemory = Some answer.NoMemory
+
+-- a book once the open tickets that ask for a path at or below one are answered
+abbrev pub with_answers_below : List (List ℕ) → ℕ → Answer → Book → Book
+with_answers_below path number given book = record book { tickets = map (answered_below path number given) book.tickets }

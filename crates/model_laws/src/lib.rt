@@ -44,9 +44,11 @@ pub use run_laws::{
     preempted_by_whom_took_place, preempted_later_by_whom_took_place,
 };
 pub use ticket_laws::{
-    clean_answers_nobody, failed_rows_answer_below, invalid_rows_answer_below,
+    clean_answers_nobody, failed_make_answers_below, failed_rows_answer_below,
+    failed_wipe_answers_below, invalid_rows_answer_below, made_make_answers_below,
     made_row_answers_below, open_ticket_is_below_bare_path, overlapping_rows_answer_below,
-    removed_rows_answer_below, replaced_rows_answer_below, row_above_open_ticket_covers,
+    refused_make_answers_below, refused_wipe_answers_below, removed_rows_answer_below,
+    replaced_rows_answer_below, row_above_open_ticket_covers,
 };
 pub use work_laws::{
     entry_keeps_placed, entry_keeps_stored, entry_keeps_work, history_keeps_placed,
