@@ -56,3 +56,5 @@ pub mod StoredPuts
 pub mod StoredLemmas
 pub mod StoredKept
 pub mod EndsBelow
+pub mod LeavingMoves
+pub mod LeavingLemmas

@@ -7,3 +7,4 @@ pub mod WorkRules
 pub mod RunRules
 pub mod KeptRules
 pub mod StoredRules
+pub mod CleanRules

@@ -3,6 +3,7 @@
 
 mod book_laws;
 mod claim_laws;
+mod clean_laws;
 mod first_laws;
 mod kept_laws;
 mod laws;
@@ -22,6 +23,7 @@ pub use claim_laws::{
     read_part_is_apart, removed_row_meets_no_debris, removed_row_meets_no_loan,
     returned_part_meets_no_debris, row_meets_no_debris, row_meets_own_loan,
 };
+pub use clean_laws::{cleaned_parts_are_wiped, cleaned_paths_are_leaving};
 pub use first_laws::{first_make_may_begin, first_wipe_may_begin, nothing_first_is_drained};
 pub use kept_laws::{
     history_keeps_kept_order, kept_row_stays, kept_row_was_recorded, kept_row_was_recorded_later,
