@@ -58,3 +58,4 @@ pub mod StoredKept
 pub mod EndsBelow
 pub mod LeavingMoves
 pub mod LeavingLemmas
+pub mod PointLemmas

@@ -1,4 +1,4 @@
--- The stored rows keep their rules: after each entry whose work comes in order, after a history, and from an opening that is right.
+-- The kept rows keep their rules: after each entry whose work comes in order, after a history, and from an opening that is right.
 use Rattle.std.proofs.Common.{◌≡◌, ℕ, ◌==◌, Bool, true, false, ◌&&◌, ◌⊎◌, inl, inr, List, [], ◌∷◌, Option, Some, None, cond, refl, sym, ap, subst, ◌∙◌, map, find, Contains, arith}
 use Rattle.std.specs.List.{filter, list_any}
 use Rattle.std.proofs.lemmas.Bool.{and_parts}
@@ -52,14 +52,14 @@ use Rattle.model_laws.proofs.Elements.{found_contains}
 
 -- ---- a request
 
--- what a request leaves of the stored rows: some of them, or these and the rows that are due, where the rows are what they were
+-- what a request leaves of the kept rows: some of them, or these and the rows that are due, where the rows are what they were
 abbrev StoresAs : Point → Asked → Served → Type 0
 StoresAs point request served =
     ((test : KeptRow → Bool) × (kept_asked request served.reply served.book.rows point.kept ≡ filter test point.kept))
     ⊎ ((served.book.rows ≡ point.book.rows)
     × (kept_asked request served.reply served.book.rows point.kept ≡ store_rows (filter (is_due point.kept) point.book.rows) point.kept))
 
--- all that is stored passes a test that all do
+-- all that is kept passes a test that all do
 all_kept : (kept : List KeptRow) → filter (λ (k : KeptRow). true) kept ≡ kept
 all_kept [] = refl
 all_kept (row ∷ kept) = ap (λ (ks : List KeptRow). row ∷ ks) (all_kept kept)
@@ -79,7 +79,7 @@ asked_stores point moment request said =
       flushes = λ is. subst (λ (r : Asked). StoresAs point r (flushed_served (request_context point).due now)) (sym is) (inr (refl, refl));
     })
 
--- the rules of the stored rows after an event that was served
+-- the rules of the kept rows after an event that was served
 abbrev StoredBy : Point → ℕ → Event → Served → Type 0
 StoredBy point caller what served = IsStored served.book.rows (work_after point caller what served).jobs (kept_after point what served)
 
@@ -220,7 +220,7 @@ done_stored point number out said (Some job) rules stored runs =
 
 -- ---- entries and histories
 
--- an entry keeps the rules of the stored rows
+-- an entry keeps the rules of the kept rows
 pub entry_stored : (point : Point) (entry : Entry) → ComesInOrder point entry → IsWork (next_number point) point.book.rows point.work →
     IsStored point.book.rows point.work.jobs point.kept → IsStored (after point entry).book.rows (after point entry).work.jobs (after point entry).kept
 entry_stored point entry order rules stored = by entry.event order
@@ -239,7 +239,7 @@ history_stored point (entry ∷ later) orders rules stored =
 
 -- ---- openings
 
--- the rows of an opening are stored where they are
+-- the rows of an opening are kept where they are
 opening_paths : (opening : Opening) (rows : List Row) → map path_of_kept (map (kept_at_opening opening) rows) ≡ map path_of_row rows
 opening_paths opening [] = refl
 opening_paths opening (row ∷ rows) = ap (λ (ps : List (List (List ℕ))). row.path ∷ ps) (opening_paths opening rows)

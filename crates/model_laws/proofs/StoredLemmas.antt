@@ -1,4 +1,4 @@
--- The stored rows keep their rules, over plain lists: where rows step and stored ones go, where a job begins or ends, and where rows are stored.
+-- The kept rows keep their rules, over plain lists: where rows step and kept ones go, where a job begins or ends, and where rows are stored.
 use Rattle.std.proofs.Common.{◌≡◌, ℕ, ◌+◌, ◌≤◌, Bool, true, false, not, ◌⊎◌, inl, inr, List, [], ◌∷◌, ◌++◌, Option, Some, cond, refl, sym, ap, subst, ◌∙◌, map, find, Contains, arith}
 use Rattle.std.specs.List.{filter, list_any}
 use Rattle.std.specs.Option.{option_map_or}
@@ -28,7 +28,7 @@ use Rattle.model_laws.proofs.StoredPuts.{is_kept_at, put_kept_new, put_kept_ther
 use Rattle.model_laws.proofs.WorkBase.{Steps}
 use Rattle.model_laws.proofs.WorkClaims.{MayLend}
 
--- the paths of stored rows and of tasks
+-- the paths of kept rows and of tasks
 abbrev stored_paths : List KeptRow → List Job → List (List (List ℕ))
 stored_paths kept jobs = map path_of_kept kept ++ map path_of_job jobs
 
@@ -37,7 +37,7 @@ covering-stored : (x : List (List ℕ)) (kept : List KeptRow) (jobs : List Job) 
     covering x (stored_paths kept jobs) ≡ covering x (map path_of_kept kept) + covering x (map path_of_job jobs)
 covering-stored x kept jobs = covering-append x (map path_of_kept kept) (map path_of_job jobs)
 
--- a path overlaps none of them where it overlaps no stored row and no task
+-- a path overlaps none of them where it overlaps no kept row and no task
 none_stored : (path : List (List ℕ)) (kept : List KeptRow) (jobs : List Job) → ((one : KeptRow) → Contains kept one → overlap path one.path ≡ false) →
     ((job : Job) → Contains jobs job → overlap path (path_of_job job) ≡ false) → list_any (overlap path) (stored_paths kept jobs) ≡ false
 none_stored path kept jobs clear free =
@@ -49,7 +49,7 @@ none_stored path kept jobs clear free =
       | inr out ↦ let (job, within, is) = mapped_contains path_of_job jobs q out in subst (λ (p : List (List ℕ)). overlap path p ≡ false) is (free job within)
     ])
 
--- a stored row overlaps no task
+-- a kept row overlaps no task
 pub stored_no_task : (rows : List Row) (jobs : List Job) (kept : List KeptRow) (one : KeptRow) (job : Job) → IsStored rows jobs kept → Contains kept one →
     Contains jobs job → overlap one.path (path_of_job job) ≡ false
 stored_no_task rows jobs kept one job stored among also =
@@ -58,7 +58,7 @@ stored_no_task rows jobs kept one job stored among also =
 
 -- ---- rows step
 
--- rows step, and stored ones go
+-- rows step, and kept ones go
 pub stored_steps : (next : ℕ) (place : Option (List (List ℕ))) (rows left : List Row) (jobs : List Job) (kept : List KeptRow) (test : KeptRow → Bool) →
     Steps next place rows left → IsStored rows jobs kept → IsStored left jobs (filter test kept)
 stored_steps next place rows left jobs kept test steps stored = record {
@@ -79,7 +79,7 @@ stored_steps next place rows left jobs kept test steps stored = record {
 
 -- ---- rows are stored
 
--- a row may be stored: no task overlaps it, a lent part that does is its own, and so is a stored row
+-- a row may be stored: no task overlaps it, a lent part that does is its own, and so is a kept row
 pub record MayStore (rows : List Row) (jobs : List Job) (kept : List KeptRow) (row : Row) : Type 0 where
   pub among : Contains rows row
   pub free : (job : Job) → Contains jobs job → overlap row.path (path_of_job job) ≡ false
@@ -204,7 +204,7 @@ stored_flushed next rows work kept rules stored =
 
 -- ---- a job begins
 
--- a job begins at a path that no loan overlaps, and what is stored there goes
+-- a job begins at a path that no loan overlaps, and what is kept there goes
 pub stored_begun : (rows : List Row) (jobs : List Job) (kept : List KeptRow) (job : Job) → is_lent (path_of_job job) jobs ≡ false → MayLend rows jobs job.lent →
     IsStored rows jobs kept → IsStored rows (jobs ++ job ∷ []) (filter (is_kept_clear (path_of_job job)) kept)
 stored_begun rows jobs kept job free may stored = record {
@@ -259,7 +259,7 @@ stored_dropped rows jobs kept test stored = record {
   lent = λ one job part among also is meet. stored.lent one job part among (filtered_contains test jobs job also).0 is meet;
 }
 
--- a row comes to stand at a path that no stored row overlaps
+-- a row comes to stand at a path that no kept row overlaps
 pub stored_made : (rows : List Row) (jobs : List Job) (kept : List KeptRow) (path : List (List ℕ)) →
     ((one : KeptRow) → Contains kept one → overlap one.path path ≡ false) → IsStored rows jobs kept → IsStored (map (standing_row path) rows) jobs kept
 stored_made rows jobs kept path clear stored = record {

@@ -1,4 +1,4 @@
--- What a stored row covers that is put among others in order of path.
+-- What a kept row covers that is put among others in order of path.
 use Rattle.std.proofs.Common.{◌≡◌, ℕ, ◌+◌, Bool, true, false, ◌||◌, List, [], ◌∷◌, cond, refl, ap, subst, map, arith}
 use Rattle.std.specs.List.{list_all, list_any}
 use Rattle.std.specs.Ordering.{is_lt}
@@ -16,7 +16,7 @@ use Rattle.model_laws.specs.KeptRules.{path_of_kept}
 use Rattle.model_laws.proofs.Apart.{before-trans}
 use Rattle.model_laws.proofs.Elements.{contains_all}
 
--- whether a row is stored at a path
+-- whether a row is kept at a path
 abbrev pub is_kept_at : List (List ℕ) → List KeptRow → Bool
 is_kept_at path kept = list_any (same_names path) (map path_of_kept kept)
 

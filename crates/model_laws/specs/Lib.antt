@@ -8,3 +8,4 @@ pub mod RunRules
 pub mod KeptRules
 pub mod StoredRules
 pub mod CleanRules
+pub mod PointRules

@@ -159,13 +159,13 @@ abbrev pub IsPartPlaced : Option Lent → Type 0
 IsPartPlaced None = Unit {0}
 IsPartPlaced (Some lent) = list_all (is_placed lent.path) lent.tree ≡ true
 
--- the trees of some rows, of the parts that jobs read and of stored rows are at paths, and so is what ways read
+-- the trees of some rows, of the parts that jobs read and of kept rows are at paths, and so is what ways read
 pub record IsPlaced (rows : List Row) (work : WorkState) (kept : List KeptRow) : Type 0 where
   -- each node of a row's tree is at a path
   pub reach : (row : Row) → Contains rows row → is_row_placed row ≡ true
   -- and each node of a part's that a job reads
   pub lent : (job : Job) → Contains work.jobs job → IsPartPlaced job.lent
-  -- and each node of a stored row's tree
+  -- and each node of a kept row's tree
   pub stored : (one : KeptRow) → Contains kept one → list_all (is_placed one.path) one.tree ≡ true
   -- a row whose bytes are held is a plain file
   pub held : (row : Row) → Contains rows row → IsHeldPlain (way_of row.stamp work.ways) row.tree

@@ -53,7 +53,7 @@ pub use ticket_laws::{
     replaced_rows_answer_below, row_above_open_ticket_covers,
 };
 pub use work_laws::{
-    entry_keeps_placed, entry_keeps_stored, entry_keeps_work, history_keeps_placed,
-    history_keeps_stored, history_keeps_work, opening_keeps_placed, opening_keeps_stored,
-    opening_keeps_work,
+    entry_keeps_placed, entry_keeps_point, entry_keeps_stored, entry_keeps_work,
+    history_keeps_placed, history_keeps_point, history_keeps_stored, history_keeps_work,
+    opening_keeps_placed, opening_keeps_point, opening_keeps_stored, opening_keeps_work,
 };

@@ -7,6 +7,7 @@ ghost use Rattle.mat_model.specs.Openings.{IsOpening};
 ghost use Rattle.mat_model.specs.Rows.{are_apart};
 ghost use Rattle.model_laws.specs.RowRules.{AreStampedBelow};
 ghost use Rattle.model_laws.specs.KeptRules.{KeptAscend};
+ghost use Rattle.model_laws.specs.PointRules.{GoesOn, IsPoint};
 ghost use Rattle.model_laws.specs.StoredRules.{IsStored};
 ghost use Rattle.model_laws.specs.WorkRules.{AsksAtPaths, IsPlaced, IsWork};
 
@@ -50,7 +51,7 @@ pub fn opening_keeps_placed()
         IsPlaced (book_of opening history).rows (point_of opening history).work (point_of opening history).kept }
 {}
 
-/// An entry whose work comes in order keeps the rules of the stored rows, where the work state keeps its own.
+/// An entry whose work comes in order keeps the rules of the kept rows, where the work state keeps its own.
 pub fn entry_keeps_stored()
     ensures { (point : Point) (entry : Entry) → ComesInOrder point entry →
         IsWork (next_number point) point.book.rows point.work → IsStored point.book.rows point.work.jobs point.kept →
@@ -64,8 +65,24 @@ pub fn history_keeps_stored()
         IsStored (after_all point later).book.rows (after_all point later).work.jobs (after_all point later).kept }
 {}
 
-/// From an opening that is right, every history whose work comes in order leads to stored rows that keep their rules.
+/// From an opening that is right, every history whose work comes in order leads to kept rows that keep their rules.
 pub fn opening_keeps_stored()
     ensures { (opening : Opening) (history : List Entry) → IsOpening opening → IsEach ComesInOrder (opened opening) history →
         IsStored (book_of opening history).rows (point_of opening history).work.jobs (point_of opening history).kept }
+{}
+
+/// An entry whose work comes in order and that asks at paths keeps all rules of a point.
+pub fn entry_keeps_point()
+    ensures { (point : Point) (entry : Entry) → GoesOn point entry → IsPoint point → IsPoint (after point entry) }
+{}
+
+/// Behind any point, such entries do so too.
+pub fn history_keeps_point()
+    ensures { (point : Point) (later : List Entry) → IsEach GoesOn point later → IsPoint point → IsPoint (after_all point later) }
+{}
+
+/// From an opening that is right, every such history leads to a point that keeps all rules.
+pub fn opening_keeps_point()
+    ensures { (opening : Opening) (history : List Entry) → IsOpening opening → IsEach GoesOn (opened opening) history →
+        IsPoint (point_of opening history) }
 {}
