@@ -28,7 +28,8 @@ use mat_path::{Items, Memory, Path};
 use mat_tree::Flat;
 use std::alloc::Global;
 
-/// A disk in memory. It has room for what it lent to come back.
+/// A disk in memory. It has room for what it lent to come back, and keeps all nodes in plain lists: `take`, `nodes`, `strays` and
+/// `crash` go through all of them, `nodes` and `strays` also sort, and `give` moves none.
 #[derive(Drop)]
 pub struct MemDisk {
     pub(crate) nodes: Segments<Entry>,

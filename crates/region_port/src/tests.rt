@@ -254,16 +254,26 @@ fn an_armed_call_fails_once(rt: HostRuntime) -> Result<(), Fail> {
     assert!(rt; matches!(region.list(), Listed::Failed));
     assert_eq!(rt; (region.calls(), Region::faults(&region)), (6, 5));
     assert_eq!(rt; list_of(alloc, &mut region)?.as_slice(), b" .!1".as_slice());
-    arm(&mut disk);
-    disk.give(region);
-    assert!(rt; disk.loans.is_empty());
-    assert!(rt; matches!(disk.strays(&[]), Strays::Failed));
-    assert_eq!(rt; (disk.calls(), Disk::faults(&disk)), (8, 6));
     Ok(())
 }
 
-fn arm<A: Arm>(device: &mut A) {
-    device.arm();
+#[test]
+fn an_armed_search_fails_once(rt: HostRuntime) -> Result<(), Fail> {
+    let alloc = rt.alloc();
+    let mut disk = MemDisk::new(alloc);
+    let path = Path::read(alloc, b"a")?;
+    assert!(rt; !disk.lent(&path));
+    let mut region = disk.take(&path)?;
+    region.arm();
+    assert_eq!(rt; region.sync(), Did::Failed);
+    disk.give(region);
+    disk.arm();
+    assert!(rt; disk.loans.is_empty());
+    assert!(rt; matches!(disk.strays(&[]), Strays::Failed));
+    assert!(rt; disk.loans.is_empty());
+    assert!(rt; matches!(disk.strays(&[]), Strays::Found(_)));
+    assert_eq!(rt; (disk.calls(), Disk::faults(&disk)), (3, 2));
+    Ok(())
 }
 
 /// The strays beside one known path, as a text.
@@ -446,38 +456,34 @@ fn state_of(alloc: Global, synced: Synced<MemRegion>) -> Result<Vec<u8>, Fail> {
     Ok(text)
 }
 
-#[test]
-fn parts_settle_in_one_call(rt: HostRuntime) -> Result<(), Fail> {
-    let alloc = rt.alloc();
-    let mut disk = MemDisk::new(alloc);
-    let path = Path::read(alloc, b"a")?;
-    assert_eq!(rt; keep(&mut disk, b"a", b".", b"abc", false)?, Did::Done);
-    assert!(rt; !disk.lent(&path));
-    let nodes = disk.nodes(&path)?;
-    let region = disk.take(&path)?;
-    let synced = settle(alloc, region, nodes.as_slice())?;
-    assert_eq!(rt;
-        state_of(alloc, synced)?.as_slice(),
-        b"settled a .!310".as_slice()
-    );
-    Ok(())
+/// Lends the part at a path, and settles it with the tree that it has.
+fn settle_at(disk: &mut MemDisk, path: &Path, armed: bool) -> Result<Synced<MemRegion>, Fail>
+    requires { list_any (overlap path.now) (disk_loans disk.old) ≡ false }
+{
+    let alloc = *disk.loans.allocator();
+    let nodes = disk.nodes(path)?;
+    let mut region = disk.take(path)?;
+    if armed {
+        region.arm();
+        return settle(alloc, region, nodes.as_slice());
+    }
+    settle(alloc, region, nodes.as_slice())
 }
 
 #[test]
-fn an_armed_part_comes_back(rt: HostRuntime) -> Result<(), Fail> {
+fn a_part_settles_in_one_call(rt: HostRuntime) -> Result<(), Fail> {
     let alloc = rt.alloc();
-    let mut disk = MemDisk::new(alloc);
     let path = Path::read(alloc, b"a")?;
-    assert_eq!(rt; keep(&mut disk, b"a", b".", b"abc", false)?, Did::Done);
-    assert!(rt; !disk.lent(&path));
-    let nodes = disk.nodes(&path)?;
-    let mut region = disk.take(&path)?;
-    region.arm();
-    let synced = settle(alloc, region, nodes.as_slice())?;
-    assert_eq!(rt;
-        state_of(alloc, synced)?.as_slice(),
-        b"failed a11".as_slice()
-    );
+    for (armed, text) in [
+        (false, b"settled a .!310".as_slice()),
+        (true, b"failed a11"),
+    ] {
+        let mut disk = MemDisk::new(alloc);
+        assert_eq!(rt; keep(&mut disk, b"a", b".", b"abc", false)?, Did::Done);
+        assert!(rt; !disk.lent(&path));
+        let synced = settle_at(&mut disk, &path, armed)?;
+        assert_eq!(rt; state_of(alloc, synced)?.as_slice(), text);
+    }
     Ok(())
 }
 
