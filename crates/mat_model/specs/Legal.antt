@@ -1,6 +1,7 @@
 -- Legal histories: the rules of an entry at its point, each by its name, and a history all of whose entries keep them.
 use Rattle.std.specs.Prelude.{◌≡◌, ◌⊎◌, ℕ, ◌-◌, ◌^◌, ◌<◌, ◌≤◌, ◌==◌, ◌&&◌, ◌||◌, nat_le, nat_lt, Bool, true, false, not, List, [], ◌∷◌, count_by, Option, Some, None}
 use Rattle.std.specs.List.{list_all}
+use Rattle.mat_path.specs.Names.{is_path}
 use Rattle.mat_tree.specs.declared.flat.Flat.{Flat}
 use Rattle.mat_tree.specs.declared.sum.Kind.{Kind}
 use Rattle.mat_tree.specs.declared.sum.Kind.TheVariants as kind
@@ -182,6 +183,11 @@ end_of_time = 2 ^ 63
 abbrev pub may_write : Sum → Bool
 may_write sum = same_kind sum.kind kind.File && nat_le sum.digest.size greatest_file
 
+-- a sum may be written at a place: the place is a path
+pub record MayWrite (place : List (List ℕ)) (sum : Sum) : Type 0 where
+  pub placed : is_path place ≡ true
+  pub plain : may_write sum ≡ true
+
 -- a tree may be declared at a path: it is a tree, and each of its nodes is at a path there
 pub record MayDeclare (path : List (List ℕ)) (tree : List Flat) : Type 0 where
   pub whole : IsTree tree
@@ -189,7 +195,7 @@ pub record MayDeclare (path : List (List ℕ)) (tree : List Flat) : Type 0 where
 
 -- what a request may ask
 abbrev pub MayAsk : Asked → Type 0
-MayAsk (asked.Write command path sum) = may_write sum ≡ true
+MayAsk (asked.Write command path sum) = MayWrite path sum
 MayAsk (asked.Declare command path tree) = MayDeclare path tree
 MayAsk (asked.Clean cutoff mode) = nat_lt cutoff end_of_time ≡ true
 MayAsk _ = Unit {0}

@@ -1,16 +1,15 @@
 -- The rules of the soft commands of a book, after a request: they ascend, and each of them is live or waits.
-use Rattle.std.proofs.Common.{◌≡◌, ◌<◌, ℕ, ◌==◌, nat_lt, Bool, true, false, not, ◌&&◌, ◌||◌, List, [], ◌∷◌, ◌++◌, cond, refl, sym, ap, ap₂, subst, ◌∙◌, map, Contains, arith, Some}
+use Rattle.std.proofs.Common.{◌≡◌, ℕ, ◌==◌, nat_lt, Bool, true, false, not, ◌||◌, List, [], ◌∷◌, ◌++◌, cond, refl, sym, ap, ap₂, subst, ◌∙◌, map, arith, Some}
 use Rattle.std.specs.List.{All, filter, list_all, list_any}
 use Rattle.std.proofs.lemmas.Bool.{and_from, and_parts, both_ways, or_left, or_parts}
 use Rattle.std.proofs.lemmas.Bool.Decides.{nat_tests}
-use Rattle.std.proofs.lemmas.List.Elements.{All-cons, All-filter, All-head, All-nil, All-tail, All-weaker}
+use Rattle.std.proofs.lemmas.List.Elements.{All-cons, All-head, All-nil, All-tail, All-weaker}
 use Rattle.std.proofs.lemmas.List.Folds.{list_any-append}
 use Rattle.mat_model.specs.declared.book.Book.{Book}
 use Rattle.mat_model.specs.declared.book.Waiter.{Waiter}
 use Rattle.mat_model.specs.declared.requests.Asked.{Asked}
 use Rattle.mat_model.specs.Books.{IsCommandOf, are_ascending, command_of}
-use Rattle.mat_model.specs.Gate.{Admitted, Gate, admit, admits_front, admitted, come, depart, departed, gate_of, is_beside, is_command, is_known, is_other, is_waiter, one_more, put_number, take_over, wait, with_gate, with_soft}
-use Rattle.mat_model.specs.Requests.{preempted}
+use Rattle.mat_model.specs.Gate.{Admitted, Gate, admit, admits_front, admitted, come, depart, departed, gate_of, is_beside, is_command, is_known, is_other, is_waiter, one_more, put_number, take_over, wait, with_soft}
 use Rattle.model_laws.proofs.BooksGate.{commands_at, departed_commands, takes_alone}
 use Rattle.model_laws.proofs.BooksLists.{any_contains, contains_any}
 use Rattle.mat_path.proofs.Elements.{contains_filter}

@@ -36,7 +36,7 @@ use Rattle.model_laws.proofs.BooksRows.{apart_same}
 use Rattle.model_laws.proofs.ClaimLemmas.{disk_no_debris, disk_own_loan, own_loans_apart}
 use Rattle.model_laws.proofs.Elements.{found_contains}
 use Rattle.model_laws.proofs.FirstLemmas.{make_may_begin}
-use Rattle.model_laws.proofs.LeavingMoves.{ended_leaves, make_leaves, put_debris_cases, wipe_leaves}
+use Rattle.model_laws.proofs.LeavingMoves.{ended_leaving, make_leaving, put_debris_cases, wipe_leaving}
 use Rattle.model_laws.proofs.RowCases.{either_served}
 use Rattle.model_laws.proofs.RunLemmas.{clean_leaves, clean_removes}
 
@@ -64,7 +64,7 @@ added_cases condemned (row ∷ rows) debris one among =
     ]
 
 -- the path of a row that stood and is removed is leaving afterwards, where debris that there is doesn't overlap it and that of removed rows is condemned
-removed_leaves : (next : ℕ) (rows left : List Row) (work : WorkState) (row : Row) (leaves : Row → Bool) (ways : List WayOf) (dirty : List (List (List ℕ)))
+removed_leaving : (next : ℕ) (rows left : List Row) (work : WorkState) (row : Row) (leaves : Row → Bool) (ways : List WayOf) (dirty : List (List (List ℕ)))
     (debris : List Debris) → IsWork next rows work → ((other : Row) → Contains left other → Contains rows other) → Contains (removed_rows rows left) row →
     row.stands ≡ true → ((one : Debris) → Contains debris one → overlap row.path one.path ≡ false) →
     IsLeaving row.path left (record {
@@ -74,7 +74,7 @@ removed_leaves : (next : ℕ) (rows left : List Row) (work : WorkState) (row : R
       debris = add_debris true (filter leaves (removed_rows rows left)) debris;
       cleaned = map stamp_of (removed_rows rows left) ++ work.cleaned;
     })
-removed_leaves next rows left work row leaves ways dirty debris rules fewer gone stands aside = record {
+removed_leaving next rows left work row leaves ways dirty debris rules fewer gone stands aside = record {
   clear = λ other among.
       false_from_ne_true (overlap other.path row.path)
       (λ meet. never_left left row other there.1 among (ap (λ (r : Row). r.stamp) (one_row other (fewer other among) meet)));
@@ -175,10 +175,10 @@ clean_served point cutoff how served row rules cleaned gone =
         IsLeaving row.path served.book.rows (record (without_removed c removed (cond all (condemned_all point.work) point.work)) { ways = ways })
     by false is all = absurd cc
     by true is true =
-        removed_leaves (next_number point) point.book.rows served.book.rows point.work row (leaves_debris (condemned_all point.work)) ways
+        removed_leaving (next_number point) point.book.rows served.book.rows point.work row (leaves_debris (condemned_all point.work)) ways
         (filter (is_kept_dirty removed) point.work.dirty) (map (condemn point.work.jobs) point.work.debris) rules cleaned.old gone stands condemned_aside
     by true is false =
-        removed_leaves (next_number point) point.book.rows served.book.rows point.work row (leaves_debris point.work) ways
+        removed_leaving (next_number point) point.book.rows served.book.rows point.work row (leaves_debris point.work) ways
         (filter (is_kept_dirty removed) point.work.dirty) point.work.debris rules cleaned.old gone stands aside
 
 -- a clean that removed a row isn't dry, and the state store didn't fail
@@ -199,9 +199,9 @@ away_cleaned point entry row away = by (removes away.mode) refl (is_store_fault 
     by false off c told = absurd (never (inl off))
 
 -- from a clean on the path of a row that it removed is leaving
-pub cleaned_leaves : (point : Point) (entry : Entry) (row : Row) → IsWork (next_number point) point.book.rows point.work → IsCleanedAway point entry row →
+pub cleaned_leaving : (point : Point) (entry : Entry) (row : Row) → IsWork (next_number point) point.book.rows point.work → IsCleanedAway point entry row →
     IsLeaving row.path (after point entry).book.rows (after point entry).work
-cleaned_leaves point entry row rules away =
+cleaned_leaving point entry row rules away =
     subst
     (λ (what : Event). IsLeaving row.path (after point entry).book.rows (work_after point entry.by.caller what (served_at point entry))) (sym away.asks)
     (clean_served point away.cutoff away.mode (served_at point entry) row rules (away_cleaned point entry row away) away.gone)
@@ -209,70 +209,70 @@ cleaned_leaves point entry row rules away =
 -- ---- entries
 
 -- a path stays leaving by an event that was served
-abbrev LeavesBy : List (List ℕ) → Point → ℕ → Event → Served → Type 0
-LeavesBy path point caller what served = IsLeaving path served.book.rows (work_after point caller what served)
+abbrev LeavingBy : List (List ℕ) → Point → ℕ → Event → Served → Type 0
+LeavingBy path point caller what served = IsLeaving path served.book.rows (work_after point caller what served)
 
 -- the task that comes first begins
-task_leaves : (path : List (List ℕ)) (point : Point) (caller : ℕ) (begun : Task) → first_task point.work point.book ≡ Some begun →
+task_leaving : (path : List (List ℕ)) (point : Point) (caller : ℕ) (begun : Task) → first_task point.work point.book ≡ Some begun →
     IsLeaving path point.book.rows point.work →
     IsLeaving path point.book.rows (started (next_number point) caller begun point.book.rows point.work)
-task_leaves path point caller (task.Make place stamp) first leaving =
-    make_leaves path (next_number point) caller place stamp point.book point.work (make_may_begin point.work point.book place stamp first) leaving
-task_leaves path point caller (task.Wipe place) first leaving = wipe_leaves path (next_number point) caller place point.book.rows point.work leaving
+task_leaving path point caller (task.Make place stamp) first leaving =
+    make_leaving path (next_number point) caller place stamp point.book point.work (make_may_begin point.work point.book place stamp first) leaving
+task_leaving path point caller (task.Wipe place) first leaving = wipe_leaving path (next_number point) caller place point.book.rows point.work leaving
 
 -- a make is refused
-refused_leaves : (path : List (List ℕ)) (rows : List Row) (work : WorkState) (begun : Task) (note : FaultNote) → refused_no_wipe begun (Some note) ≡ true →
+refused_leaving : (path : List (List ℕ)) (rows : List Row) (work : WorkState) (begun : Task) (note : FaultNote) → refused_no_wipe begun (Some note) ≡ true →
     IsLeaving path rows work → IsLeaving path rows (refused begun work)
-refused_leaves path rows work (task.Make place stamp) note goes leaving = leaving
-refused_leaves path rows work (task.Wipe place) note goes leaving = absurd cc
+refused_leaving path rows work (task.Make place stamp) note goes leaving = leaving
+refused_leaving path rows work (task.Wipe place) note goes leaving = absurd cc
 
-begin_leaves : (path : List (List ℕ)) (point : Point) (caller : ℕ) (begun : Task) (o : Option FaultNote) → first_task point.work point.book ≡ Some begun →
+begin_leaving : (path : List (List ℕ)) (point : Point) (caller : ℕ) (begun : Task) (o : Option FaultNote) → first_task point.work point.book ≡ Some begun →
     IsLeaving path point.book.rows point.work → refused_no_wipe begun (refusal_note (begin_with point begun o).reply) ≡ true →
-    LeavesBy path point caller (event.Begin begun) (begin_with point begun o)
-begin_leaves path point caller begun None first leaving = λ goes. task_leaves path point caller begun first leaving
-begin_leaves path point caller begun (Some note) first leaving =
+    LeavingBy path point caller (event.Begin begun) (begin_with point begun o)
+begin_leaving path point caller begun None first leaving = λ goes. task_leaving path point caller begun first leaving
+begin_leaving path point caller begun (Some note) first leaving =
     either_served
-    (λ (served : Served). refused_no_wipe begun (refusal_note served.reply) ≡ true → LeavesBy path point caller (event.Begin begun) served)
+    (λ (served : Served). refused_no_wipe begun (refusal_note served.reply) ≡ true → LeavingBy path point caller (event.Begin begun) served)
     (is_keeper note.device && list_any (overlaps_kept (path_of_task begun)) point.kept) _ _
-    (λ failed goes. refused_leaves path point.book.rows point.work begun note goes leaving)
-    (λ calm goes. task_leaves path point caller begun first leaving)
+    (λ failed goes. refused_leaving path point.book.rows point.work begun note goes leaving)
+    (λ calm goes. task_leaving path point caller begun first leaving)
 
 -- a job ends, if one runs
-done_leaves : (path : List (List ℕ)) (point : Point) (number : ℕ) (out : Outcome) (said : Reply) (o : Option Job) → running number point.work ≡ o →
+done_leaving : (path : List (List ℕ)) (point : Point) (number : ℕ) (out : Outcome) (said : Reply) (o : Option Job) → running number point.work ≡ o →
     job_failed_no_wipe o out ≡ true → IsLeaving path point.book.rows point.work →
     IsLeaving path (answer_done point out said o).book.rows
     (ended number out (answer_done point out said o).reply (answer_done point out said o).book.rows point.work o)
-done_leaves path point number out said None runs goes leaving = leaving
-done_leaves path point number out said (Some job) runs goes leaving =
-    ended_leaves path (next_number point) number job out (recorded_as said) point.book point.work (found_contains (is_job number) point.work.jobs job runs)
+done_leaving path point number out said None runs goes leaving = leaving
+done_leaving path point number out said (Some job) runs goes leaving =
+    ended_leaving path (next_number point) number job out (recorded_as said) point.book point.work (found_contains (is_job number) point.work.jobs job runs)
     goes leaving
 
 -- a path that is leaving stays so by an entry that is work alone
-pub entry_leaves : (path : List (List ℕ)) (point : Point) (entry : Entry) → ComesInOrder point entry → IsWorkOnly point entry →
+pub entry_leaving : (path : List (List ℕ)) (point : Point) (entry : Entry) → ComesInOrder point entry → IsWorkOnly point entry →
     IsLeaving path point.book.rows point.work → IsLeaving path (after point entry).book.rows (after point entry).work
-entry_leaves path point entry order goes leaving = by entry.event order goes
+entry_leaving path point entry order goes leaving = by entry.event order goes
   where
     by : (what : Event) → IsInOrder point entry.by.caller what → is_work_only point what (answer point entry.now what entry.reply).reply ≡ true →
-        LeavesBy path point entry.by.caller what (answer point entry.now what entry.reply)
+        LeavingBy path point entry.by.caller what (answer point entry.now what entry.reply)
     by (event.Asked request) first on = absurd cc
-    by (event.Begin begun) first on = begin_leaves path point entry.by.caller begun (refusal_note entry.reply) first leaving on
-    by (event.Done number out) first on = done_leaves path point number out entry.reply (running number point.work) refl on leaving
+    by (event.Begin begun) first on = begin_leaving path point entry.by.caller begun (refusal_note entry.reply) first leaving on
+    by (event.Done number out) first on = done_leaving path point number out entry.reply (running number point.work) refl on leaving
 
 -- and by some such entries
-pub history_leaves : (path : List (List ℕ)) (point : Point) (later : List Entry) → IsEach ComesInOrder point later → IsEach IsWorkOnly point later →
+pub history_leaving : (path : List (List ℕ)) (point : Point) (later : List Entry) → IsEach ComesInOrder point later → IsEach IsWorkOnly point later →
     IsLeaving path point.book.rows point.work → IsLeaving path (after_all point later).book.rows (after_all point later).work
-history_leaves path point [] orders goes leaving = leaving
-history_leaves path point (entry ∷ later) orders goes leaving =
-    history_leaves path (after point entry) later orders.1 goes.1 (entry_leaves path point entry orders.0 goes.0 leaving)
+history_leaving path point [] orders goes leaving = leaving
+history_leaving path point (entry ∷ later) orders goes leaving =
+    history_leaving path (after point entry) later orders.1 goes.1 (entry_leaving path point entry orders.0 goes.0 leaving)
 
 -- ---- the law
 
 -- the path of a row that a clean removed is leaving behind entries that are work alone
-pub cleaned_leaves_later : (point : Point) (entry : Entry) (later : List Entry) (row : Row) → IsWork (next_number point) point.book.rows point.work →
+pub cleaned_leaving_later : (point : Point) (entry : Entry) (later : List Entry) (row : Row) → IsWork (next_number point) point.book.rows point.work →
     IsCleanedAway point entry row → IsEach ComesInOrder (after point entry) later → IsEach IsWorkOnly (after point entry) later →
     IsLeaving row.path (after_all (after point entry) later).book.rows (after_all (after point entry) later).work
-cleaned_leaves_later point entry later row rules away orders goes =
-    history_leaves row.path (after point entry) later orders goes (cleaned_leaves point entry row rules away)
+cleaned_leaving_later point entry later row rules away orders goes =
+    history_leaving row.path (after point entry) later orders goes (cleaned_leaving point entry row rules away)
 
 -- where all work is done, no claim overlaps a path that is leaving
 drained_clear : (path : List (List ℕ)) (point : Point) (claim : List (List ℕ)) → IsLeaving path point.book.rows point.work → IsDrained point →
@@ -307,4 +307,4 @@ pub cleaned_gone : (point : Point) (entry : Entry) (later : List Entry) (row : R
     IsEach IsWorkOnly (after point entry) later → IsDrained (after_all (after point entry) later) →
     Contains (claims (after_all (after point entry) later).book.rows (after_all (after point entry) later).work) claim → overlap claim row.path ≡ false
 cleaned_gone point entry later row claim rules away orders goes drained among =
-    drained_clear row.path (after_all (after point entry) later) claim (cleaned_leaves_later point entry later row rules away orders goes) drained among
+    drained_clear row.path (after_all (after point entry) later) claim (cleaned_leaving_later point entry later row rules away orders goes) drained among

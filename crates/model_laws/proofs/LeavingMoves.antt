@@ -40,9 +40,9 @@ put_debris_cases new (first ∷ debris) one among =
     ] among
 
 -- debris is put that is condemned at the path, if it overlaps it
-put_leaves : (path : List (List ℕ)) (rows : List Row) (work : WorkState) (new : Debris) → (overlap new.path path ≡ true → IsCondemnedAt path new) →
+put_leaving : (path : List (List ℕ)) (rows : List Row) (work : WorkState) (new : Debris) → (overlap new.path path ≡ true → IsCondemnedAt path new) →
     IsLeaving path rows work → IsLeaving path rows (record work { debris = put_debris new work.debris })
-put_leaves path rows work new condemned leaving = record {
+put_leaving path rows work new condemned leaving = record {
   clear = leaving.clear;
   making = leaving.making;
   debris = λ one among meet.
@@ -56,10 +56,10 @@ put_leaves path rows work new condemned leaving = record {
 -- ---- a job begins
 
 -- a job begins that makes nothing that overlaps the path and reads nothing there but the part of a removed row; some debris goes
-begun_leaves : (path : List (List ℕ)) (rows : List Row) (work : WorkState) (job : Job) (dirty : List (List (List ℕ))) (debris : List Debris) →
+begun_leaving : (path : List (List ℕ)) (rows : List Row) (work : WorkState) (job : Job) (dirty : List (List (List ℕ))) (debris : List Debris) →
     IsMadeAside path job.task → IsPartLeaving path work.cleaned job.lent → ((one : Debris) → Contains debris one → Contains work.debris one) →
     IsLeaving path rows work → IsLeaving path rows (record work { jobs = work.jobs ++ job ∷ []; dirty = dirty; debris = debris })
-begun_leaves path rows work job dirty debris aside part fewer leaving = record {
+begun_leaving path rows work job dirty debris aside part fewer leaving = record {
   clear = leaving.clear;
   making = λ other among. elim (cases other among) [ inl before ↦ leaving.making other before | inr same ↦ subst (λ (j : Job). IsMadeAside path j.task) same aside ];
   debris = λ one among. leaving.debris one (fewer one among);
@@ -92,11 +92,11 @@ lends_aside path rows cleaned (copied source rest stamp holds) clear = by (find 
         absurd (both_ways (overlap source path) aside meet)
 
 -- a make begins
-pub make_leaves : (path : List (List ℕ)) (number caller : ℕ) (place : List (List ℕ)) (stamp : ℕ) (book : Book) (work : WorkState) →
+pub make_leaving : (path : List (List ℕ)) (number caller : ℕ) (place : List (List ℕ)) (stamp : ℕ) (book : Book) (work : WorkState) →
     MakeMayBegin work book place stamp → IsLeaving path book.rows work →
     IsLeaving path book.rows (started number caller (task.Make place stamp) book.rows work)
-make_leaves path number caller place stamp book work may leaving =
-    begun_leaves path book.rows work
+make_leaving path number caller place stamp book work may leaving =
+    begun_leaving path book.rows work
     (record { number = number; caller = caller; task = task.Make place stamp; lent = lent_by (way_of stamp work.ways) book.rows })
     (filter (λ (other : List (List ℕ)). not (same_names other place)) work.dirty) (filter (is_not_below place) work.debris)
     (subst (λ (p : List (List ℕ)). overlap p path ≡ false) may.placed (leaving.clear may.row may.among))
@@ -104,10 +104,10 @@ make_leaves path number caller place stamp book work may leaving =
     (λ one among. (filtered_contains (is_not_below place) work.debris one among).0) leaving
 
 -- a wipe begins
-pub wipe_leaves : (path : List (List ℕ)) (number caller : ℕ) (place : List (List ℕ)) (rows : List Row) (work : WorkState) → IsLeaving path rows work →
+pub wipe_leaving : (path : List (List ℕ)) (number caller : ℕ) (place : List (List ℕ)) (rows : List Row) (work : WorkState) → IsLeaving path rows work →
     IsLeaving path rows (started number caller (task.Wipe place) rows work)
-wipe_leaves path number caller place rows work leaving =
-    begun_leaves path rows work (record { number = number; caller = caller; task = task.Wipe place; lent = None }) work.dirty work.debris tt tt
+wipe_leaving path number caller place rows work leaving =
+    begun_leaving path rows work (record { number = number; caller = caller; task = task.Wipe place; lent = None }) work.dirty work.debris tt tt
     (λ one among. among) leaving
 
 -- ---- a job ends
@@ -118,9 +118,9 @@ record Ending (path : List (List ℕ)) (part : Option Lent) (rows : List Row) (w
   out : IsPartLeaving path work.cleaned part
 
 -- rows come to stand
-stand_leaves : (path place : List (List ℕ)) (rows : List Row) (work : WorkState) → IsLeaving path rows work →
+stand_leaving : (path place : List (List ℕ)) (rows : List Row) (work : WorkState) → IsLeaving path rows work →
     IsLeaving path (map (standing_row place) rows) work
-stand_leaves path place rows work leaving = record {
+stand_leaving path place rows work leaving = record {
   clear = λ row among.
       let (old, within, is) = mapped_contains (standing_row place) rows row among in
       subst (λ (r : Row). overlap r.path path ≡ false) is
@@ -135,7 +135,7 @@ make_ends : (path : List (List ℕ)) (part : Option Lent) (number : ℕ) (place 
     overlap place path ≡ false → Ending path part book.rows work →
     Ending path part (end_make number place out how book o).book.rows (made_work place out (end_make number place out how book o).reply work)
 make_ends path part number place out how book work None aside ending = record {
-  leaving = put_leaves path book.rows work (record { path = place; condemned = false }) (λ meet. absurd (both_ways (overlap place path) aside meet)) ending.leaving;
+  leaving = put_leaving path book.rows work (record { path = place; condemned = false }) (λ meet. absurd (both_ways (overlap place path) aside meet)) ending.leaving;
   out = ending.out;
 }
 make_ends path part number place out how book work (Some row) aside ending = by out
@@ -153,7 +153,7 @@ make_ends path part number place out how book work (Some row) aside ending = by 
 
     by : (end : Outcome) →
         Ending path part (end_make number place end how book (Some row)).book.rows (made_work place end (end_make number place end how book (Some row)).reply work)
-    by outcome.Made = record { leaving = stand_leaves path place book.rows work ending.leaving; out = ending.out }
+    by outcome.Made = record { leaving = stand_leaving path place book.rows work ending.leaving; out = ending.out }
     by outcome.Wiped = failed
     by (outcome.Missing digest) = failed
     by (outcome.Corrupt wanted other) = failed
@@ -193,7 +193,7 @@ part_returns path (Some lent) rows work ending = by (list_any (has_stamp lent.st
     by : (b : Bool) → IsLeaving path rows (cond b work (record work { debris = put_debris new work.debris }))
     by true = ending.leaving
     by false =
-        put_leaves path rows work new
+        put_leaving path rows work new
         (λ meet.
         let part = ending.out meet in record {
           placed = part.placed;
@@ -202,11 +202,11 @@ part_returns path (Some lent) rows work ending = by (list_any (has_stamp lent.st
         ending.leaving
 
 -- a job ends, which is no wipe that failed
-pub ended_leaves : (path : List (List ℕ)) (next number : ℕ) (job : Job) (out : Outcome) (how : Recorded) (book : Book) (work : WorkState) →
+pub ended_leaving : (path : List (List ℕ)) (next number : ℕ) (job : Job) (out : Outcome) (how : Recorded) (book : Book) (work : WorkState) →
     Contains work.jobs job → failed_no_wipe job.task out ≡ true → IsLeaving path book.rows work →
     IsLeaving path (finish next job.task out how book).book.rows
     (ended number out (finish next job.task out how book).reply (finish next job.task out how book).book.rows work (Some job))
-ended_leaves path next number job out how book work among goes leaving =
+ended_leaving path next number job out how book work among goes leaving =
     part_returns path job.lent (finish next job.task out how book).book.rows (ended_work job.task out (finish next job.task out how book).reply others)
     (task_ends path job.lent next job.task out how book others (leaving.making job among) goes
     (record { leaving = fewer; out = leaving.lending job among }))

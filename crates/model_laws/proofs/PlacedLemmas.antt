@@ -31,7 +31,7 @@ use Rattle.mat_model.specs.Declarations.{declared_at, tree_at, written_tree}
 use Rattle.mat_model.specs.Gate.{Served}
 use Rattle.mat_model.specs.History.{Point, after, after_all, answer, answer_done, begin_with, book_of, is_keeper, is_store_fault, next_number, opened, point_of, recorded_as, refusal_note, request_context, work_after, work_begun}
 use Rattle.mat_model.specs.Kept.{KeptRow, may_fail, overlaps_kept}
-use Rattle.mat_model.specs.Legal.{IsEach, MayAsk, MayHappen}
+use Rattle.mat_model.specs.Legal.{IsAskable, IsEach, MayAsk, MayHappen}
 use Rattle.mat_model.specs.Openings.{IsOpening, is_row_placed, kept_at_opening}
 use Rattle.mat_model.specs.Requests.{at_moment}
 use Rattle.mat_model.specs.Rows.{are_apart, cover, covers, is_at_path}
@@ -40,7 +40,7 @@ use Rattle.mat_model.specs.WorkState.{Debris, Job, Lent, Way, WayOf, WorkState, 
 use Rattle.model_laws.specs.Laws.{declares}
 use Rattle.model_laws.specs.KeptRules.{KeptAscend}
 use Rattle.model_laws.specs.RowRules.{AreStampedBelow, IsDeclaredBy, RowStep, is_copy_placed, tree_declared}
-use Rattle.model_laws.specs.WorkRules.{AsksAtPaths, IsHeldPlain, IsPartPlaced, IsPlaced, IsPlain, IsReadAtPaths, WritesAt, WritesAtPath}
+use Rattle.model_laws.specs.WorkRules.{IsHeldPlain, IsPartPlaced, IsPlaced, IsPlain, IsReadAtPaths}
 use Rattle.model_laws.proofs.ApartLemmas.{history_apart}
 use Rattle.model_laws.proofs.Elements.{contains_all, found_contains, found_passes}
 use Rattle.model_laws.proofs.KeptLemmas.{event_comes, history_ascends, opening_ascends}
@@ -138,28 +138,28 @@ declared_goes (asked.Clean cutoff mode) rows ways tree reach plain is = absurd c
 declared_goes asked.Flush rows ways tree reach plain is = absurd cc
 
 -- the tree of a declared row lies at paths
-declared_placed : (request : Asked) (rows : List Row) (path : List (List ℕ)) (tree : List Flat) → MayAsk request → WritesAt request →
+declared_placed : (request : Asked) (rows : List Row) (path : List (List ℕ)) (tree : List Flat) → MayAsk request →
     declares request ≡ Some path → tree_declared request rows ≡ Some tree → is_copy_placed request tree ≡ true → list_all (is_placed path) tree ≡ true
-declared_placed (asked.Enter command state soft refuse) rows path tree may at is has short = absurd cc
-declared_placed (asked.Leave command) rows path tree may at is has short = absurd cc
-declared_placed (asked.Write command place sum) rows path tree may at is has short =
+declared_placed (asked.Enter command state soft refuse) rows path tree may is has short = absurd cc
+declared_placed (asked.Leave command) rows path tree may is has short = absurd cc
+declared_placed (asked.Write command place sum) rows path tree may is has short =
     let same : written_tree sum ≡ tree = cc in
     let here : place ≡ path = cc in
     subst (λ (t : List Flat). list_all (is_placed path) t ≡ true) same
-    (plain_placed path sum.digest false (subst (λ (p : List (List ℕ)). is_path p ≡ true) here at))
-declared_placed (asked.Declare command place declared) rows path tree may at is has short =
+    (plain_placed path sum.digest false (subst (λ (p : List (List ℕ)). is_path p ≡ true) here may.placed))
+declared_placed (asked.Declare command place declared) rows path tree may is has short =
     let same : declared ≡ tree = cc in
     let here : place ≡ path = cc in
     subst (λ (t : List Flat). list_all (is_placed path) t ≡ true) same
     (subst (λ (p : List (List ℕ)). list_all (is_placed p) declared ≡ true) here may.placed)
-declared_placed (asked.Copy command place source) rows path tree may at is has short =
+declared_placed (asked.Copy command place source) rows path tree may is has short =
     let here : place ≡ path = cc in subst (λ (p : List (List ℕ)). list_all (is_placed p) tree ≡ true) here short
-declared_placed (asked.Matches command place sum) rows path tree may at is has short = absurd cc
-declared_placed (asked.Has command place) rows path tree may at is has short = absurd cc
-declared_placed (asked.Ensure command place) rows path tree may at is has short = absurd cc
-declared_placed (asked.Invalidate command place) rows path tree may at is has short = absurd cc
-declared_placed (asked.Clean cutoff mode) rows path tree may at is has short = absurd cc
-declared_placed asked.Flush rows path tree may at is has short = absurd cc
+declared_placed (asked.Matches command place sum) rows path tree may is has short = absurd cc
+declared_placed (asked.Has command place) rows path tree may is has short = absurd cc
+declared_placed (asked.Ensure command place) rows path tree may is has short = absurd cc
+declared_placed (asked.Invalidate command place) rows path tree may is has short = absurd cc
+declared_placed (asked.Clean cutoff mode) rows path tree may is has short = absurd cc
+declared_placed asked.Flush rows path tree may is has short = absurd cc
 
 -- ---- what an entry leaves of ways and of jobs
 
@@ -343,8 +343,8 @@ new_goes point entry row placed new =
 
 -- an entry keeps trees and ways at paths
 pub entry_placed : (point : Point) (entry : Entry) → are_apart point.book.rows ≡ true → AreStampedBelow (next_number point) point.book.rows → KeptAscend point.kept →
-    AsksAtPaths point entry → IsPlaced point.book.rows point.work point.kept → IsPlaced (after point entry).book.rows (after point entry).work (after point entry).kept
-entry_placed point entry apart stamped up (may, at) placed = record {
+    IsAskable point entry → IsPlaced point.book.rows point.work point.kept → IsPlaced (after point entry).book.rows (after point entry).work (after point entry).kept
+entry_placed point entry apart stamped up may placed = record {
   reach = λ row among. reaches row (row_step point entry row apart among);
   lent = λ job among.
       elim (goes.0 job among) [
@@ -366,7 +366,7 @@ entry_placed point entry apart stamped up (may, at) placed = record {
 
     reaches : (row : Row) → RowStep point entry row → is_row_placed row ≡ true
     reaches row (inl new) =
-        declared_placed new.request point.book.rows row.path row.tree (subst MayHappen new.asks may) (subst WritesAtPath new.asks at) new.path new.tree new.placed
+        declared_placed new.request point.book.rows row.path row.tree (subst MayHappen new.asks may) new.path new.tree new.placed
     reaches row (inr was) =
         subst (λ (p : List (List ℕ)). list_all (is_placed p) row.tree ≡ true) (sym was.same.path)
         (subst (λ (t : List Flat). list_all (is_placed was.old.path) t ≡ true) (sym was.same.tree) (placed.reach was.old was.among))
@@ -380,7 +380,7 @@ entry_placed point entry apart stamped up (may, at) placed = record {
 
 -- a history keeps them
 pub history_placed : (point : Point) (later : List Entry) → are_apart point.book.rows ≡ true → AreStampedBelow (next_number point) point.book.rows → KeptAscend point.kept →
-    IsEach AsksAtPaths point later → IsPlaced point.book.rows point.work point.kept → IsPlaced (after_all point later).book.rows (after_all point later).work (after_all point later).kept
+    IsEach IsAskable point later → IsPlaced point.book.rows point.work point.kept → IsPlaced (after_all point later).book.rows (after_all point later).work (after_all point later).kept
 history_placed point [] apart stamped up each placed = placed
 history_placed point (entry ∷ later) apart stamped up each placed =
     history_placed (after point entry) later (history_apart point (entry ∷ []) apart) (entry_stamps point entry apart stamped)
@@ -402,7 +402,7 @@ opening_placed opening right = record {
     none : {Y : Type 0} {y : Y} → Contains [] y → ⊥
     none (k, within, at) = omega arith
 
-pub opened_placed : (opening : Opening) (history : List Entry) → IsOpening opening → IsEach AsksAtPaths (opened opening) history →
+pub opened_placed : (opening : Opening) (history : List Entry) → IsOpening opening → IsEach IsAskable (opened opening) history →
     IsPlaced (book_of opening history).rows (point_of opening history).work (point_of opening history).kept
 opened_placed opening history right each =
     history_placed (opened opening) history right.apart (opening_stamps opening [] right) (opening_ascends opening [] right) each (opening_placed opening right)

@@ -1,5 +1,5 @@
 -- What a request, the begin and the end of a job leave of a book, case by case, and of its rows and its tickets alone.
-use Rattle.std.proofs.Common.{◌≡◌, ℕ, ◌==◌, Bool, true, false, not, ◌||◌, List, [], ◌∷◌, ◌++◌, Option, Some, None, cond, refl, sym, subst, map, find, count_by, ap₂, length, ◌+◌}
+use Rattle.std.proofs.Common.{◌≡◌, ℕ, ◌==◌, Bool, true, false, not, List, [], ◌∷◌, ◌++◌, Option, Some, None, cond, refl, map, find, count_by, ap₂, length, ◌+◌}
 use Rattle.std.specs.List.{list_all, filter}
 use Rattle.mat_tree.specs.declared.flat.Flat.{Flat}
 use Rattle.mat_tree.specs.Trees.{is_placed, same_sum}
@@ -11,7 +11,6 @@ use Rattle.mat_model.specs.declared.book.Book.{Book}
 use Rattle.mat_model.specs.declared.book.Hold.{Hold}
 use Rattle.mat_model.specs.declared.book.Row.{Row}
 use Rattle.mat_model.specs.declared.book.Ticket.{Ticket}
-use Rattle.mat_model.specs.declared.book.Waiter.{Waiter}
 use Rattle.mat_model.specs.declared.entries.Outcome.{Outcome}
 use Rattle.mat_model.specs.declared.entries.Outcome.TheVariants as outcome
 use Rattle.mat_model.specs.declared.entries.Task.{Task}

@@ -1,10 +1,10 @@
 -- The rules of a point together: those of its book, of its work state, of its trees and ways, and of its kept rows.
 use Rattle.mat_model.specs.Books.{IsBook}
 use Rattle.mat_model.specs.History.{Point, next_number}
-use Rattle.mat_model.specs.Legal.{ComesInOrder}
+use Rattle.mat_model.specs.Legal.{ComesInOrder, IsAskable}
 use Rattle.mat_model.specs.declared.entries.Entry.{Entry}
 use Rattle.model_laws.specs.StoredRules.{IsStored}
-use Rattle.model_laws.specs.WorkRules.{AsksAtPaths, IsPlaced, IsWork}
+use Rattle.model_laws.specs.WorkRules.{IsPlaced, IsWork}
 
 -- a point keeps its rules
 pub record IsPoint (point : Point) : Type 0 where
@@ -19,4 +19,4 @@ pub record IsPoint (point : Point) : Type 0 where
 
 -- an entry goes on rightly: its work comes in order, and it asks for what may be asked, at paths
 abbrev pub GoesOn : Point → Entry → Type 0
-GoesOn point entry = ComesInOrder point entry × AsksAtPaths point entry
+GoesOn point entry = ComesInOrder point entry × IsAskable point entry

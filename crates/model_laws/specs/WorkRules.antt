@@ -4,21 +4,13 @@ use Rattle.std.specs.List.{Contains, flat_map, list_all, list_any}
 use Rattle.std.specs.Option.{option_map_or}
 use Rattle.mat_digest.specs.declared.digest.Digest.{Digest}
 use Rattle.mat_path.specs.Covering.{covering}
-use Rattle.mat_path.specs.Names.{is_path}
 use Rattle.mat_tree.specs.declared.flat.Flat.{Flat}
 use Rattle.mat_tree.specs.Trees.{ascends_by, file_tree, is_placed}
 use Rattle.mat_model.specs.declared.book.Row.{Row}
-use Rattle.mat_model.specs.declared.entries.Entry.{Entry}
-use Rattle.mat_model.specs.declared.entries.Event.{Event}
-use Rattle.mat_model.specs.declared.entries.Event.TheVariants as event
 use Rattle.mat_model.specs.declared.entries.Task.{Task}
 use Rattle.mat_model.specs.declared.entries.Task.TheVariants as task
-use Rattle.mat_model.specs.declared.requests.Asked.{Asked}
-use Rattle.mat_model.specs.declared.requests.Asked.TheVariants as asked
 use Rattle.mat_model.specs.Books.{are_ascending}
-use Rattle.mat_model.specs.History.{Point}
 use Rattle.mat_model.specs.Kept.{KeptRow}
-use Rattle.mat_model.specs.Legal.{IsAskable}
 use Rattle.mat_model.specs.Openings.{is_row_placed, path_of_row}
 use Rattle.mat_model.specs.Rows.{are_apart}
 use Rattle.mat_model.specs.WorkState.{Job, Lent, Way, WorkState, copied, held, is_dirty, is_held_way, lies_at, path_of_debris, path_of_task, store, way_of}
@@ -171,20 +163,6 @@ pub record IsPlaced (rows : List Row) (work : WorkState) (kept : List KeptRow) :
   pub held : (row : Row) → Contains rows row → IsHeldPlain (way_of row.stamp work.ways) row.tree
   -- each node of a copied row's tree is at a path below where it was copied from
   pub copied : (row : Row) → Contains rows row → IsReadAtPaths (way_of row.stamp work.ways) row.tree
-
--- a write is at a path: of its file alone no rule of what may be asked says so
-abbrev pub WritesAt : Asked → Type 0
-WritesAt (asked.Write command path sum) = is_path path ≡ true
-WritesAt _ = Unit {0}
-
-abbrev pub WritesAtPath : Event → Type 0
-WritesAtPath (event.Asked request) = WritesAt request
-WritesAtPath (event.Begin begun) = Unit {0}
-WritesAtPath (event.Done job out) = Unit {0}
-
--- an entry asks for what may be asked, at paths
-abbrev pub AsksAtPaths : Point → Entry → Type 0
-AsksAtPaths point entry = IsAskable point entry × WritesAtPath entry.event
 
 -- ---- loans
 

@@ -2,14 +2,14 @@ ghost use Rattle.std.specs.Prelude.{◌≡◌, List, true};
 ghost use Rattle.mat_model.specs.declared.entries.Entry.{Entry};
 ghost use Rattle.mat_model.specs.declared.opening.Opening.{Opening};
 ghost use Rattle.mat_model.specs.History.{Point, after, after_all, book_of, next_number, opened, point_of};
-ghost use Rattle.mat_model.specs.Legal.{ComesInOrder, IsEach};
+ghost use Rattle.mat_model.specs.Legal.{ComesInOrder, IsAskable, IsEach};
 ghost use Rattle.mat_model.specs.Openings.{IsOpening};
 ghost use Rattle.mat_model.specs.Rows.{are_apart};
 ghost use Rattle.model_laws.specs.RowRules.{AreStampedBelow};
 ghost use Rattle.model_laws.specs.KeptRules.{KeptAscend};
 ghost use Rattle.model_laws.specs.PointRules.{GoesOn, IsPoint};
 ghost use Rattle.model_laws.specs.StoredRules.{IsStored};
-ghost use Rattle.model_laws.specs.WorkRules.{AsksAtPaths, IsPlaced, IsWork};
+ghost use Rattle.model_laws.specs.WorkRules.{IsPlaced, IsWork};
 
 /// An entry whose work comes in order keeps the rules of a work state.
 pub fn entry_keeps_work()
@@ -31,23 +31,23 @@ pub fn opening_keeps_work()
         IsWork (next_number (point_of opening history)) (book_of opening history).rows (point_of opening history).work }
 {}
 
-/// An entry that asks at paths keeps trees and ways at paths, and held rows plain files, whatever else it does.
+/// An entry that asks for what may be asked keeps trees and ways at paths, and held rows plain files, whatever else it does.
 pub fn entry_keeps_placed()
     ensures { (point : Point) (entry : Entry) → are_apart point.book.rows ≡ true → AreStampedBelow (next_number point) point.book.rows →
-        KeptAscend point.kept → AsksAtPaths point entry → IsPlaced point.book.rows point.work point.kept →
+        KeptAscend point.kept → IsAskable point entry → IsPlaced point.book.rows point.work point.kept →
         IsPlaced (after point entry).book.rows (after point entry).work (after point entry).kept }
 {}
 
-/// Behind any point, entries that ask at paths do so too.
+/// Behind any point, entries that ask for what may be asked do so too.
 pub fn history_keeps_placed()
     ensures { (point : Point) (later : List Entry) → are_apart point.book.rows ≡ true → AreStampedBelow (next_number point) point.book.rows →
-        KeptAscend point.kept → IsEach AsksAtPaths point later → IsPlaced point.book.rows point.work point.kept →
+        KeptAscend point.kept → IsEach IsAskable point later → IsPlaced point.book.rows point.work point.kept →
         IsPlaced (after_all point later).book.rows (after_all point later).work (after_all point later).kept }
 {}
 
-/// From an opening that is right, every history that asks at paths leads to trees and ways that lie at paths.
+/// From an opening that is right, every history that asks for what may be asked leads to trees and ways that lie at paths.
 pub fn opening_keeps_placed()
-    ensures { (opening : Opening) (history : List Entry) → IsOpening opening → IsEach AsksAtPaths (opened opening) history →
+    ensures { (opening : Opening) (history : List Entry) → IsOpening opening → IsEach IsAskable (opened opening) history →
         IsPlaced (book_of opening history).rows (point_of opening history).work (point_of opening history).kept }
 {}
 
@@ -71,7 +71,7 @@ pub fn opening_keeps_stored()
         IsStored (book_of opening history).rows (point_of opening history).work.jobs (point_of opening history).kept }
 {}
 
-/// An entry whose work comes in order and that asks at paths keeps all rules of a point.
+/// An entry whose work comes in order and that asks for what may be asked keeps all rules of a point.
 pub fn entry_keeps_point()
     ensures { (point : Point) (entry : Entry) → GoesOn point entry → IsPoint point → IsPoint (after point entry) }
 {}
