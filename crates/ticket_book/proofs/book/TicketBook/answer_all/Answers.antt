@@ -1,0 +1,27 @@
+use Rattle.std.proofs.Common.{rules, arith, ◌≡◌, ◌≤◌, ◌+◌, ◌++◌, ◌∙◌, List, ap, map, length, count_by}
+use Rattle.std.specs.List.{filter}
+use Rattle.std.specs.Vec.{vec_capacity}
+use Rattle.mat_model.specs.Books.{number_of}
+use Rattle.mat_model.specs.declared.book.Ticket.{Ticket}
+use Rattle.ticket_book.specs.Asked.{is_due}
+use Rattle.ticket_book.specs.Whose.{takes}
+use Rattle.ticket_book.proofs.AnswerLemmas.{answered_rules, answered_size, room_for}
+use Rattle.ticket_book.proofs.book.TicketBook.answer_all.Goals as goal
+
+pub list_due-requires : goal.list_due-requires
+list_due-requires c =
+    let room = room_for (takes c.args.whose.now) (record { all = c.self.inside.tickets.items; answered = c.self.inside.answered.items })
+    (vec_capacity c.self.inside.answered) c.self.invariant.0 c.self.invariant.1 in
+    let same = ap (λ (ts : List Ticket). count_by (is_due (takes c.args.whose.now)) ts) c.as_slice.ensures.value in record { room = omega (arith, room, same) }
+
+pub invariant_of-self : goal.invariant_of-self
+invariant_of-self c =
+    let same = c.answer_listed.ensures in
+    let size = answered_size (takes c.args.whose.now) c.args.at c.args.answer c.self.inside.tickets.items c.answer_listed.new.tickets.items same in
+    let enough = c.self.invariant.1 in
+    let room = c.list_due.ensures.capacity in (
+      answered_rules (takes c.args.whose.now) c.args.at c.args.answer c.self.inside.tickets.items c.answer_listed.new.tickets.items c.self.inside.answered.items c.list_due.new.numbers.items
+          c.self.invariant.0 same
+          (c.list_due.ensures.list ∙ ap (λ (ts : List Ticket). c.self.inside.answered.items ++ map number_of (filter (is_due (takes c.args.whose.now)) ts)) c.as_slice.ensures.value),
+      omega (arith, size, enough, room),
+    )

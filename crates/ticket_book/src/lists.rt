@@ -1,0 +1,109 @@
+ghost use Rattle.std.specs.Prelude.{◌≡◌, ◌+◌, ◌≤◌, ◌++◌, [], ◌∷◌, ◌<◌, true, count_by, length, map, vec_capacity, if◌then◌else◌};
+ghost use Rattle.std.specs.List.{filter, find};
+ghost use Rattle.std.specs.Option.{option_copied};
+ghost use Rattle.mat_model.specs.Books.{number_of};
+ghost use Rattle.mat_model.specs.Requests.{is_open_of};
+ghost use Rattle.mat_model.specs.Tickets.{is_open};
+ghost use Rattle.ticket_book.specs.Asked.{answered_if, is_due, is_from, lowest, ticket_at};
+ghost use Rattle.ticket_book.specs.Whose.{takes};
+
+use crate::whose::{Whose, is_open};
+use mat_model::{Answer, Given, Ticket};
+
+// Gives an answer to a ticket, if it is open and one of those that it is for.
+fn answer_if(ticket: &mut Ticket, whose: &Whose, at: u64, answer: Answer)
+    ensures { ticket.new ≡ answered_if (takes whose.now) at answer ticket.old }
+{
+    if whose.is_due(ticket) {
+        ticket.answered = Some(Given { at, answer });
+    }
+}
+
+// Gives an answer to each open ticket that it is for.
+fn answer_each(tickets: &mut [Ticket], whose: &Whose, at: u64, answer: Answer)
+    ensures { tickets.new ≡ map (answered_if (takes whose.now) at answer) tickets.old }
+{
+    for ticket in tickets.iter_mut() {
+        answer_if(ticket, whose, at, answer);
+    }
+}
+
+// The same in a list.
+pub(crate) fn answer_listed(tickets: &mut Vec<Ticket>, whose: &Whose, at: u64, answer: Answer)
+    ensures { tickets.new.items ≡ map (answered_if (takes whose.now) at answer) tickets.old.items }
+{
+    answer_each(tickets.as_mut_slice(), whose, at, answer);
+}
+
+// Puts the number of a ticket behind others, if it is open and one of those that an answer is for.
+fn push_due(numbers: &mut Vec<u64>, ticket: &Ticket, whose: &Whose)
+    requires room { is_due (takes whose.now) ticket.now ≡ true → length numbers.old.items < vec_capacity numbers.old }
+    ensures list { numbers.new.items ≡ numbers.old.items ++ (if is_due (takes whose.now) ticket.now then number_of ticket.now ∷ [] else []) }
+    ensures capacity { vec_capacity numbers.new ≡ vec_capacity numbers.old }
+{
+    if whose.is_due(ticket) {
+        numbers.push_reserved(ticket.number);
+    }
+}
+
+// Puts the numbers of the open tickets that an answer is for behind others, for which there is room.
+pub(crate) fn list_due(numbers: &mut Vec<u64>, tickets: &[Ticket], whose: &Whose)
+    requires room { length numbers.old.items + count_by (is_due (takes whose.now)) tickets.now ≤ vec_capacity numbers.old }
+    ensures list { numbers.new.items ≡ numbers.old.items ++ map number_of (filter (is_due (takes whose.now)) tickets.now) }
+    ensures capacity { vec_capacity numbers.new ≡ vec_capacity numbers.old }
+{
+    for ticket in tickets {
+        push_due(numbers, ticket, whose);
+    }
+}
+
+// The lowest number of an open ticket that an answer would be for.
+pub(crate) fn lowest(tickets: &[Ticket], whose: &Whose) -> Option<u64>
+    ensures { result ≡ lowest (takes whose.now) tickets.now }
+{
+    match tickets.iter().find(|ticket| whose.is_due(ticket)) {
+        Some(ticket) => Some(ticket.number),
+        None => None,
+    }
+}
+
+// Whether a ticket is open and its number isn't below one.
+fn is_open_from(ticket: &Ticket, from: u64) -> bool
+    ensures { result ≡ is_due (is_from from) ticket.now }
+{
+    is_open(ticket) && from <= ticket.number
+}
+
+// The lowest number of an open ticket that isn't below one.
+pub(crate) fn lowest_from(tickets: &[Ticket], from: u64) -> Option<u64>
+    ensures { result ≡ lowest (is_from from) tickets.now }
+{
+    match tickets.iter().find(|ticket| is_open_from(ticket, from)) {
+        Some(ticket) => Some(ticket.number),
+        None => None,
+    }
+}
+
+// The ticket of a number.
+pub(crate) fn ticket_at(tickets: &[Ticket], number: u64) -> Option<&Ticket>
+    ensures { option_copied result ≡ ticket_at tickets.now number }
+{
+    tickets.iter().find(|ticket| ticket.number == number)
+}
+
+// Whether a ticket is open and a command's.
+fn is_open_of(ticket: &Ticket, command: u32) -> bool
+    ensures { result ≡ is_open_of command ticket.now }
+{
+    is_open(ticket) && ticket.command == command
+}
+
+// How many tickets of a command are open.
+pub(crate) fn count_of(tickets: &[Ticket], command: u32) -> usize
+    ensures { result ≡ count_by (is_open_of command) tickets.now }
+{
+    tickets
+        .iter()
+        .filter(|ticket| is_open_of(ticket, command))
+        .count()
+}
