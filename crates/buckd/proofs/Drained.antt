@@ -3,7 +3,6 @@ use Rattle.std.proofs.Common.{◌≡◌, ℕ, zero, suc, ◌+◌, ◌<◌, ◌�
 use Rattle.std.specs.List.{list_any}
 use Rattle.std.specs.Option.{is_some, option_and_then, option_or}
 use Rattle.std.proofs.lemmas.Bool.{and_from, both_ways, or_left, or_parts, or_right}
-use Rattle.std.proofs.lemmas.List.Elements.{All-nil}
 use Rattle.std.proofs.lemmas.List.Folds.{list_any_none}
 use Rattle.std.proofs.lemmas.List.Sums.{sum_by-cons}
 use Rattle.mat_model.specs.declared.answers.Answer.{Answer}
@@ -16,7 +15,7 @@ use Rattle.mat_model.specs.declared.entries.Outcome.{Outcome}
 use Rattle.mat_model.specs.declared.entries.Outcome.TheVariants as outcome
 use Rattle.mat_model.specs.declared.entries.Task.{Task}
 use Rattle.mat_model.specs.declared.entries.Task.TheVariants as task
-use Rattle.mat_model.specs.Books.{IsBook, IsSummed}
+use Rattle.mat_model.specs.Books.{IsBook}
 use Rattle.mat_model.specs.History.{next_number, point_of as model_point}
 use Rattle.mat_model.specs.Legal.{may_end}
 use Rattle.mat_model.specs.Rows.{covers, is_at_path}
@@ -36,7 +35,7 @@ use Rattle.buckd.specs.Daemon.{point_of, scene_of}
 use Rattle.buckd.specs.MakeAnswers.{answer_of, tickets_answered}
 use Rattle.buckd.specs.Following.{IsLawful, IsFollowingAt, new_daemon}
 use Rattle.buckd.specs.Making.{outcome_of}
-use Rattle.buckd.specs.Run.{Point, Scene, acts_of, begin, drain, empty_book, idle, made, made_if, make_first, makes, next}
+use Rattle.buckd.specs.Run.{Point, Scene, acts_of, begin, drain, idle, made, made_if, make_first, makes, next}
 use Rattle.buckd.proofs.FollowingRuns.{make_first-at, outcome_may}
 use Rattle.buckd.proofs.MadeLemmas.{ended-book}
 

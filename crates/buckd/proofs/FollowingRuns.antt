@@ -1,7 +1,7 @@
 -- Each entry of a run's history follows, and its book is the book of the history.
 use Rattle.mat_path.proofs.Elements.{all_push, contains_map}
 use Rattle.mat_path.proofs.Bools.{and_false_right}
-use Rattle.std.proofs.Common.{◌≡◌, ℕ, zero, suc, ◌+◌, ◌==◌, max, Bool, true, false, not, ◌||◌, ◌&&◌, List, [], ◌∷◌, ◌++◌, length, count_by, Option, Some, None, cond, refl, sym, ap, ap₂, subst, ◌∙◌, Contains, find, filter, arith}
+use Rattle.std.proofs.Common.{◌≡◌, ℕ, zero, suc, ◌+◌, ◌==◌, max, Bool, true, false, not, ◌&&◌, List, [], ◌∷◌, ◌++◌, length, count_by, Option, Some, None, cond, refl, sym, ap, ap₂, subst, ◌∙◌, Contains, find, filter, arith}
 use Rattle.std.specs.List.{list_any, list_all}
 use Rattle.std.specs.Option.{option_map_or}
 use Rattle.std.proofs.lemmas.Bool.{and_from, and_parts, eq-eqb}

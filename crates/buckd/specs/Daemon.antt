@@ -14,7 +14,7 @@ use Rattle.mat_tree.specs.declared.flat.Flat.{Flat}
 use Rattle.mat_tree.specs.Parts.{HasTree, below}
 use Rattle.write_plan.specs.declared.act.Act.{Act}
 use Rattle.fetch_port.specs.Memory.{blobs_of, store_asks}
-use Rattle.region_port.specs.Disks.{disk_content, disk_loans, disk_rough}
+use Rattle.region_port.specs.Disks.{disk_content, disk_rough}
 use Rattle.buckd.specs.Making.{acts_done, asks_after, left_by, no_nodes, outcome_of, shown_by, with_nodes}
 use Rattle.buckd.specs.Run.{Point, Scene, Told, ask, asked_scene}
 

@@ -6,7 +6,7 @@ use Rattle.mat_model.specs.Legal.{FollowsFrom, is_of}
 use Rattle.mat_model.specs.declared.opening.Opening.{Opening}
 use Rattle.mat_model.specs.WorkState.{Way, WayOf, copied, held, store}
 use Rattle.buckd.specs.declared.daemon.Run.{Run}
-use Rattle.buckd.specs.Run.{Point, empty_book}
+use Rattle.buckd.specs.Run.{Point}
 
 -- a daemon begins with no kept row and an empty disk
 abbrev pub new_daemon : Opening

@@ -1,6 +1,6 @@
 -- What a crash leaves of some entries, at each path.
 use Rattle.mat_path.proofs.SameNames.{same_names-eq, same_names-refl}
-use Rattle.std.proofs.Common.{◌≡◌, ℕ, Bool, true, false, ◌||◌, not, cond, inl, inr, List, [], ◌∷◌, ◌++◌, map, refl, ap, sym, subst, ◌∙◌, Bor}
+use Rattle.std.proofs.Common.{◌≡◌, ℕ, Bool, true, false, ◌||◌, not, cond, inl, inr, List, [], ◌∷◌, ◌++◌, map, refl, ap, sym, ◌∙◌, Bor}
 use Rattle.std.specs.Prelude.{Option, Some, None}
 use Rattle.std.specs.List.{filter, list_any}
 use Rattle.std.specs.Option.{option_map, option_or}
@@ -11,8 +11,7 @@ use Rattle.std.proofs.lemmas.List.Folds.{list_any-append}
 use mathlib.Core.Bool.{true≢false}
 use Rattle.mat_path.specs.Names.{is_prefix, same_names}
 use Rattle.mat_tree.specs.Parts.{Node, Part}
-use Rattle.region_port.specs.Calls.{Paths}
-use Rattle.region_port.specs.Crashes.{Crashes, is_above, is_spared, left, left_where, torn, torn_entry, torn_kept, torn_where}
+use Rattle.region_port.specs.Crashes.{Crashes, is_above, is_spared, left_where, torn, torn_entry, torn_kept, torn_where}
 use Rattle.region_port.specs.Entries.{content_of, is_entry_at, latest, node_kept, node_of, paths_of}
 use Rattle.region_port.specs.Lists.{all_of}
 use Rattle.region_port.specs.declared.crash.Rest.{Rest}

@@ -22,7 +22,7 @@ use Rattle.std.specs.Ordering.{is_lt}
 use Rattle.std.specs.List.Sorted.{IsStrictlySortedBy}
 use Rattle.mat_path.specs.Order.{same_names_ties}
 use Rattle.mat_path.specs.Names.{is_rel, is_name, joined, is_prefix, same_names, path_cmp, rest_below}
-use Rattle.mat_tree.specs.Parts.{below, declared_by, file, folder, link, Node, Part}
+use Rattle.mat_tree.specs.Parts.{below, file, folder, link, Node, Part}
 use Rattle.mat_tree.specs.Trees.{ascends, is_after, is_at, what_at, what_of}
 use Rattle.mat_tree.specs.declared.flat.What.{What}
 use Rattle.region_port.specs.declared.entry.Entry.{Entry}

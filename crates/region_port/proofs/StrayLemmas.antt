@@ -1,9 +1,9 @@
 -- How the topmost of some paths are found by going through them in order.
-use Rattle.mat_path.proofs.CoveringLemmas.{apart_within, among_contains, covered_below, covered_by, covering-append, covering-apart, covering-head, covering-push, covering-tail}
+use Rattle.mat_path.proofs.CoveringLemmas.{apart_within, among_contains, covered_by, covering-append, covering-apart, covering-head, covering-push, covering-tail}
 use Rattle.mat_path.proofs.Elements.{each_fails}
 use Rattle.mat_path.proofs.Overlaps.{prefix-antisym}
 use Rattle.mat_path.proofs.PathLemmas.{before_apart, path_cmp-refl, path_cmp_equal, path_cmp_total, prefix-refl, prefix-trans, prefix_not_greater, prefix_split}
-use Rattle.mat_path.proofs.SameNames.{same_names-eq, same_names-refl, same_names-sym}
+use Rattle.mat_path.proofs.SameNames.{same_names-eq, same_names-refl}
 use Rattle.mat_path.specs.Covering.{covering}
 use Rattle.mat_path.specs.Names.{is_prefix, overlap, path_cmp, same_names}
 use Rattle.mat_path.specs.Order.{same_names_ties}
@@ -24,7 +24,7 @@ use Rattle.region_port.specs.Calls.{Paths}
 use Rattle.region_port.specs.Entries.{content_of, node_of}
 use Rattle.region_port.specs.declared.entry.Entry.{Entry}
 use Rattle.region_port.proofs.Content.{content_of-append, content_of-push}
-use Rattle.region_port.specs.Strays.{AreFound, AreTopmost, Gathers, IsTopmost, candidates, is_apart, is_below_last, is_below_some, is_strictly_above}
+use Rattle.region_port.specs.Strays.{AreFound, AreTopmost, Gathers, candidates, is_apart, is_below_last, is_below_some}
 
 -- ---- order
 

@@ -1,6 +1,6 @@
 -- A disk in memory, as contracts see it: a list of entries, each a path and the node there.
 use Rattle.mat_io.specs.Causes.{counted, risen}
-use Rattle.std.specs.Prelude.{◌+◌, ◌-◌, ◌^◌, ◌&&◌, ◌||◌, ℕ, min, Bool, false, not, if◌then◌else◌, List, [], ◌∷◌, Option, Some, None}
+use Rattle.std.specs.Prelude.{◌&&◌, ◌||◌, ℕ, Bool, false, not, if◌then◌else◌, List, [], ◌∷◌, Option, Some, None}
 use Rattle.std.specs.List.{list_any}
 use Rattle.std.specs.Option.{option_map, option_or}
 use Rattle.mat_path.specs.Names.{is_prefix, same_names}

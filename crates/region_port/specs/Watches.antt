@@ -1,5 +1,5 @@
 -- What the calls of regions and of their disk have in common.
-use Rattle.std.specs.Prelude.{Bool, false, Option, Some, None}
+use Rattle.std.specs.Prelude.{false, Option, Some, None}
 use Rattle.mat_io.specs.Causes.{counted}
 use Rattle.mat_io.specs.Watches.{Watch}
 

@@ -1,4 +1,4 @@
-use Rattle.std.proofs.Common.{◌||◌, map, ap, sym, ◌∙◌}
+use Rattle.std.proofs.Common.{◌||◌, ap, sym, ◌∙◌}
 use Rattle.std.specs.List.{list_any}
 use Rattle.region_port.specs.Crashes.{is_above}
 use Rattle.region_port.proofs.Crashed.{any_above-pushed}

@@ -1,4 +1,4 @@
-use Rattle.std.proofs.Common.{◌≡◌, ◌++◌, ◌∷◌, [], true, false, not, ap, sym, subst, ◌∙◌}
+use Rattle.std.proofs.Common.{ap, sym, subst, ◌∙◌}
 use Rattle.region_port.specs.Strays.{is_below_last}
 use Rattle.region_port.proofs.StrayLemmas.{Scans, scan_keeps, scan_skips}
 use Rattle.region_port.proofs.strays.topmost.Goals as goal

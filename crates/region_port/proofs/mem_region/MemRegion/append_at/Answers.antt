@@ -4,8 +4,7 @@ use Rattle.std.proofs.lemmas.Option.{slice_get_read}
 use Rattle.std.specs.List.{list_all, remove, slice_get}
 use Rattle.std.specs.Prelude.{Some}
 use Rattle.mat_tree.specs.Parts.{below, with_node}
-use Rattle.region_port.specs.Entries.{content_of, is_within, node_kept, node_of, path_of_entry}
-use Rattle.region_port.specs.Calls.{appended, with_more}
+use Rattle.region_port.specs.Entries.{content_of, is_within, node_of, path_of_entry}
 use Rattle.region_port.specs.declared.entry.Entry.{Entry}
 use Rattle.region_port.proofs.Content.{appended-with, found_node, with_node-moved, with_node-same}
 use Rattle.region_port.proofs.Lists.{all_around}
