@@ -7,6 +7,7 @@ pub mod Lists
 pub mod Onwards
 pub mod Order
 pub mod Picks
+pub mod Pulls
 pub mod RootLemmas
 pub mod Seeks
 pub mod Shortest

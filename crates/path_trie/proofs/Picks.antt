@@ -93,7 +93,7 @@ abbrev pub longest : {T : Type 0} → List (Entry T) → ℕ
 longest [] = 0
 longest (x ∷ xs) = max (length x.path) (longest xs)
 
-longest_back : {T : Type 0} (xs ys : List (Entry T)) → longest ys ≤ longest (xs ++ ys)
+pub longest_back : {T : Type 0} (xs ys : List (Entry T)) → longest ys ≤ longest (xs ++ ys)
 longest_back [] ys = omega arith
 longest_back (x ∷ xs) ys = let h = longest_back xs ys in omega (arith, h)
 
@@ -106,17 +106,23 @@ longest_in n x [] = omega arith
 longest_in n x (y ∷ ys) = let h = longest_in n y ys in omega (arith, h)
 
 -- below a child entries have fewer names than below its node
+pub shorter_among : {T : Type 0} (es : List (Edge T)) (k : ℕ) (e : Edge T) → k < length es → e ≡ get_or es k e
+    → has_some (below_node (out-Edge T e).node) ≡ true → longest (below_node (out-Edge T e).node) < longest (below_all es)
+shorter_among {T} es k e l is some =
+    let all = ap longest (ap below_all (around es k e l is) ∙ below_around (take k es) (drop (suc k) es) e) in
+    let behind = longest_back (below_all (take k es)) (map (put_in (edge_name e)) (below_node (out-Edge T e).node) ++ below_all (drop (suc k) es)) in
+    let first = longest_front (map (put_in (edge_name e)) (below_node (out-Edge T e).node)) (below_all (drop (suc k) es)) in
+    let deeper = by (below_node (out-Edge T e).node) some in
+    omega (arith, all, behind, first, deeper)
+  where
+    by : (xs : List (Entry T)) → has_some xs ≡ true → longest xs < longest (map (put_in (edge_name e)) xs)
+    by [] h = cc
+    by (x ∷ xs) h = longest_in (edge_name e) x xs
+
 pub child_shorter : {T : Type 0} (n : Node T) (es : List (Edge T)) (k : ℕ) (e : Edge T) → es ≡ (out-Node T n).edges.items → k < length es → e ≡ get_or es k e
     → has_some (below_node (out-Edge T e).node) ≡ true → longest (below_node (out-Edge T e).node) < longest (below_node n)
 child_shorter {T} n es k e same l is some =
     let whole = ap longest (below_node_out n ∙ ap (λ t. own (out-Node T n).value ++ below_all t) (sym same)) in
     let back = longest_back (own (out-Node T n).value) (below_all es) in
-    let all = ap longest (ap below_all (around es k e l is) ∙ below_around (take k es) (drop (suc k) es) e) in
-    let behind = longest_back (below_all (take k es)) (map (put_in (edge_name e)) (below_node (out-Edge T e).node) ++ below_all (drop (suc k) es)) in
-    let first = longest_front (map (put_in (edge_name e)) (below_node (out-Edge T e).node)) (below_all (drop (suc k) es)) in
-    let deeper = by (below_node (out-Edge T e).node) some in
-    omega (arith, whole, back, all, behind, first, deeper)
-  where
-    by : (xs : List (Entry T)) → has_some xs ≡ true → longest xs < longest (map (put_in (edge_name e)) xs)
-    by [] h = cc
-    by (x ∷ xs) h = longest_in (edge_name e) x xs
+    let shorter = shorter_among es k e l is some in
+    omega (arith, whole, back, shorter)

@@ -184,7 +184,7 @@ high_below {T} n es names name more least all same split none e =
     ∙ ap (λ t. filter (is_high (name ∷ more) least) (below_all t)) (sym same) ∙ e))
     ∙ ap (option_map value_of) (sym (find_first (is_high names least) (below_node n)))
 
-value_front : {T : Type 0} (n : List ℕ) (xs : List (Entry T)) → option_map value_of (first_of xs) ≡ option_map value_of (first_of (map (put_in n) xs ++ []))
+pub value_front : {T : Type 0} (n : List ℕ) (xs : List (Entry T)) → option_map value_of (first_of xs) ≡ option_map value_of (first_of (map (put_in n) xs ++ []))
 value_front n [] = refl
 value_front n (x ∷ xs) = refl
 
@@ -221,13 +221,13 @@ high_nowhere {T} n names least split none =
 
 -- ---- at and below some names
 
-under_other : {T : Type 0} (name : List ℕ) (more : List (List ℕ)) (n : List ℕ) (x : Entry T) → same_name name n ≡ false → is_under (name ∷ more) (put_in n x) ≡ false
+pub under_other : {T : Type 0} (name : List ℕ) (more : List (List ℕ)) (n : List ℕ) (x : Entry T) → same_name name n ≡ false → is_under (name ∷ more) (put_in n x) ≡ false
 under_other name more n x e = ap (λ b. b && is_prefix more x.path) e
 
-under_same : {T : Type 0} (name : List ℕ) (more : List (List ℕ)) (x : Entry T) → is_under (name ∷ more) (put_in name x) ≡ is_under more x
+pub under_same : {T : Type 0} (name : List ℕ) (more : List (List ℕ)) (x : Entry T) → is_under (name ∷ more) (put_in name x) ≡ is_under more x
 under_same name more x = ap (λ b. b && is_prefix more x.path) (same_name-refl name)
 
-under_past : {T : Type 0} (v : Option T) (name : List ℕ) (more : List (List ℕ)) (xs : List (Entry T)) → filter (is_under (name ∷ more)) (own v ++ xs) ≡ filter (is_under (name ∷ more)) xs
+pub under_past : {T : Type 0} (v : Option T) (name : List ℕ) (more : List (List ℕ)) (xs : List (Entry T)) → filter (is_under (name ∷ more)) (own v ++ xs) ≡ filter (is_under (name ∷ more)) xs
 under_past None name more xs = refl
 under_past (Some v) name more xs = refl
 

@@ -1,5 +1,5 @@
 -- A map from paths to values, as contracts see it: the list of its entries in order of path, each path once.
-use Rattle.std.specs.Prelude.{◌≡◌, ◌≤◌, ℕ, nat_le, Bool, true, false, not, ◌&&◌, List, [], ◌∷◌, ◌++◌, length, Option, Some, None}
+use Rattle.std.specs.Prelude.{◌≡◌, ◌≤◌, ℕ, nat_le, Bool, true, false, not, ◌&&◌, if◌then◌else◌, List, [], ◌∷◌, ◌++◌, length, Option, Some, None}
 use Rattle.std.specs.List.{Contains, filter, find, list_all}
 use Rattle.std.specs.Option.{option_map}
 use Rattle.std.specs.Ordering.{is_lt}
@@ -81,6 +81,11 @@ put path value entries = filter (is_before path) entries ++ record { path = path
 -- the entries without the one at a path
 abbrev pub without : {V : Type 0} → List (List ℕ) → List (Entry V) → List (Entry V)
 without path entries = filter (is_elsewhere path) entries
+
+-- a list without the first of its elements that passes a test
+abbrev pub without_first : {X : Type 0} → (X → Bool) → List X → List X
+without_first test [] = []
+without_first test (x ∷ xs) = if test x then xs else x ∷ without_first test xs
 
 -- the number of an entry's names, and its value
 abbrev pub counted : {V : Type 0} → Entry V → ℕ × V

@@ -173,7 +173,7 @@ pub(crate) fn take_at<T: Drop>(node: &mut Node<T>, names: &[Name]) -> Option<T>
 }
 
 // Counts the entry out that was taken, if one was.
-fn count_taken<T: Drop>(count: &mut usize, old: Option<T>) -> Option<T>
+pub(crate) fn count_taken<T: Drop>(count: &mut usize, old: Option<T>) -> Option<T>
     requires { length (own old) ≤ count.old }
     ensures count { count.new + length (own old) ≡ count.old }
     ensures same { result ≡ old }

@@ -7,6 +7,7 @@ mod find;
 mod laws;
 mod node;
 mod pick;
+mod pull;
 mod seek;
 mod steps;
 mod swap;

@@ -1,6 +1,6 @@
 ghost use Rattle.std.specs.Prelude.{◌≡◌, ◌<◌};
 
-use crate::{Steps, Trie, cover_is_shortest};
+use crate::{Entry, Steps, Trie, cover_is_shortest};
 use mat_path::Path;
 use std::alloc::Global;
 use std::marker::Brand;
@@ -85,6 +85,14 @@ fn change(
 fn value_of(found: Option<(&Path, &u64)>) -> Option<u64> {
     match found {
         Some((_, value)) => Some(*value),
+        None => None,
+    }
+}
+
+/// The value of an entry that was taken.
+fn taken(entry: Option<Entry<u64>>) -> Option<u64> {
+    match entry {
+        Some(entry) => Some(entry.value),
         None => None,
     }
 }
@@ -187,6 +195,10 @@ fn what_is_found_from_some_paths_on(rt: HostRuntime) -> Result<(), Fail> {
     assert_eq!(rt; value_of(trie.next_under(&top, &low)), Some(3));
     assert_eq!(rt; (trie.count_under(&top), trie.is_empty()), (2, false));
     cover_is_shortest::<u8>();
+    for wanted in [Some(1), Some(3), None] {
+        assert_eq!(rt; taken(trie.take_under(&top)), wanted);
+    }
+    assert_eq!(rt; trie.len(), 1);
     Ok(())
 }
 

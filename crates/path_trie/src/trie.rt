@@ -3,13 +3,14 @@ ghost use Rattle.std.specs.List.{filter, find, list_any, slice_get};
 ghost use Rattle.std.specs.Option.{option_copied, option_map};
 ghost use Rattle.std.specs.Result.{result_ok};
 ghost use Rattle.path_trie.specs.Roots.{kept_if, value_put};
-ghost use Rattle.path_trie.specs.Entries.{ascends, both, cover_of, is_behind, is_from, is_high, is_next_under, is_under, overlaps, path_of, put, value_at, value_of, without};
+ghost use Rattle.path_trie.specs.Entries.{ascends, both, cover_of, is_behind, is_from, is_high, is_next_under, is_under, overlaps, path_of, put, value_at, value_of, without, without_first};
 
 use crate::change::{put_at, take_at};
 use crate::entry::Entry;
 use crate::find::{count_at, get_at};
 use crate::node::Node;
 use crate::pick::value_at;
+use crate::pull::pull_at;
 use crate::seek::{behind_at, high_at};
 use crate::steps::Steps;
 use crate::swap::swap_at;
@@ -95,6 +96,15 @@ impl<V: Drop> Trie<V> {
         ensures value { result ≡ value_at path.now self.old }
     {
         value_kept(take_at(&mut self.root, path.names()))
+    }
+
+    /// Takes the first entry, in order of path, that is at or below a path, and gives it. Takes no memory: so a caller takes all that is at
+    /// and below a path, one by one.
+    pub fn take_under(&mut self, path: &Path) -> Option<Entry<V>>
+        ensures list { self.new ≡ without_first (is_under path.now) self.old }
+        ensures entry { result ≡ find (is_under path.now) self.old }
+    {
+        pull_at(&mut self.root, path.names())
     }
 
     /// The value at a path, if one stands there. Takes no memory.
