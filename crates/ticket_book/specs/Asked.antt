@@ -1,6 +1,7 @@
 -- The tickets of a book, as its contracts see them beside the definitions of the model.
 use Rattle.std.specs.Prelude.{◌≡◌, ◌+◌, ℕ, nat_le, nat_lt, ◌==◌, ◌&&◌, Bool, true, if◌then◌else◌, List, [], ◌∷◌, ◌++◌, length, map, Option, Some, None, count_by}
 use Rattle.std.specs.List.{filter, find, list_all}
+use Rattle.std.specs.Option.{option_map}
 use Rattle.mat_path.specs.Names.{is_prefix, overlap}
 use Rattle.mat_model.specs.declared.answers.Answer.{Answer}
 use Rattle.mat_model.specs.declared.book.Ticket.{Ticket}
@@ -39,11 +40,7 @@ is_due test ticket = is_open ticket && test ticket
 
 -- the lowest number of an open ticket that passes a test
 abbrev pub lowest : (Ticket → Bool) → List Ticket → Option ℕ
-lowest test tickets = number_in (find (is_due test) tickets)
-  where
-    number_in : Option Ticket → Option ℕ
-    number_in None = None
-    number_in (Some ticket) = Some ticket.number
+lowest test tickets = option_map number_of (find (is_due test) tickets)
 
 -- a ticket with an answer, if it is open and passes a test
 abbrev pub answered_if : (Ticket → Bool) → ℕ → Answer → Ticket → Ticket

@@ -20,18 +20,21 @@ pub struct TicketBook {
     tickets: Vec<Ticket>,
     // There is room for the numbers of all tickets.
     answered: Vec<u64>,
+    // No ticket before this place is open.
+    done: usize,
 }
 
 impl Model for TicketBook {
     ghost use Rattle.std.specs.Prelude.{◌≤◌, length};
     ghost use Rattle.std.specs.Vec.{vec_capacity};
     ghost use Rattle.ticket_book.specs.Asked.{AreTickets, Tickets};
+    ghost use Rattle.ticket_book.specs.Done.{IsDone};
 
     ghost Value = { Tickets };
 
     ghost view = { λ book. record { all = book.tickets.items; answered = book.answered.items } };
 
-    ghost invariant = { λ book. AreTickets (record { all = book.tickets.items; answered = book.answered.items }) × (length book.tickets.items ≤ vec_capacity book.answered) };
+    ghost invariant = { λ book. AreTickets (record { all = book.tickets.items; answered = book.answered.items }) × (length book.tickets.items ≤ vec_capacity book.answered) × IsDone book.done book.tickets.items };
 }
 
 impl TicketBook {
@@ -43,6 +46,7 @@ impl TicketBook {
         TicketBook {
             tickets: Vec::new(alloc),
             answered: Vec::new(alloc),
+            done: 0,
         }
     }
 
@@ -70,7 +74,7 @@ impl TicketBook {
     pub fn open_of(&self, command: u32) -> u64
         ensures { result ≡ count_by (is_open_of command) self.now.all }
     {
-        lists::count_of(self.tickets.as_slice(), command) as u64
+        lists::count_of(self.tickets.as_slice(), self.done, command) as u64
     }
 
     /// Answers the open tickets that ask for a path at or below this one, at an entry of the history.
@@ -106,14 +110,14 @@ impl TicketBook {
     pub fn lowest_below(&self, path: &Path) -> Option<u64>
         ensures { result ≡ lowest (asks_below path.now) self.now.all }
     {
-        lists::lowest(self.tickets.as_slice(), &Whose::Below(path))
+        lists::lowest(self.tickets.as_slice(), self.done, &Whose::Below(path))
     }
 
     /// The lowest number of an open ticket that isn't below this one.
     pub fn next_open(&self, from: u64) -> Option<u64>
         ensures { result ≡ lowest (is_from from) self.now.all }
     {
-        lists::lowest_from(self.tickets.as_slice(), from)
+        lists::lowest_from(self.tickets.as_slice(), self.done, from)
     }
 
     /// The ticket of a number.
@@ -158,7 +162,13 @@ impl TicketBook {
     fn answer_all(&mut self, whose: &Whose, at: u64, answer: Answer)
         ensures { self.new ≡ answer_all (takes whose.now) at answer self.old }
     {
-        lists::list_due(&mut self.answered, self.tickets.as_slice(), whose);
-        lists::answer_listed(&mut self.tickets, whose, at, answer);
+        lists::list_due(
+            &mut self.answered,
+            self.tickets.as_slice(),
+            self.done,
+            whose,
+        );
+        lists::answer_listed(&mut self.tickets, self.done, whose, at, answer);
+        self.done = lists::first_open(self.tickets.as_slice(), self.done);
     }
 }

@@ -1,14 +1,23 @@
-ghost use Rattle.std.specs.Prelude.{◌≡◌, ◌+◌, ◌≤◌, ◌++◌, [], ◌∷◌, ◌<◌, true, count_by, length, map, vec_capacity, if◌then◌else◌};
+ghost use Rattle.std.specs.Prelude.{◌≡◌, ◌+◌, ◌≤◌, ◌++◌, [], ◌∷◌, ◌<◌, true, count_by, drop, length, map, vec_capacity, if◌then◌else◌};
 ghost use Rattle.std.specs.List.{filter, find};
 ghost use Rattle.std.specs.Option.{option_copied};
 ghost use Rattle.mat_model.specs.Books.{number_of};
 ghost use Rattle.mat_model.specs.Requests.{is_open_of};
 ghost use Rattle.mat_model.specs.Tickets.{is_open};
 ghost use Rattle.ticket_book.specs.Asked.{answered_if, is_due, is_from, lowest, ticket_at};
+ghost use Rattle.ticket_book.specs.Done.{IsDone};
 ghost use Rattle.ticket_book.specs.Whose.{takes};
 
 use crate::whose::{Whose, is_open};
 use mat_model::{Answer, Given, Ticket};
+
+// The tickets from a place on.
+fn rest(tickets: &[Ticket], place: usize) -> &[Ticket]
+    requires { place ≤ length tickets.now }
+    ensures { result.now ≡ drop place tickets.now }
+{
+    &tickets[place..]
+}
 
 // Gives an answer to a ticket, if it is open and one of those that it is for.
 fn answer_if(ticket: &mut Ticket, whose: &Whose, at: u64, answer: Answer)
@@ -20,19 +29,27 @@ fn answer_if(ticket: &mut Ticket, whose: &Whose, at: u64, answer: Answer)
 }
 
 // Gives an answer to each open ticket that it is for.
-fn answer_each(tickets: &mut [Ticket], whose: &Whose, at: u64, answer: Answer)
+fn answer_each(tickets: &mut [Ticket], done: usize, whose: &Whose, at: u64, answer: Answer)
+    requires { IsDone done tickets.old }
     ensures { tickets.new ≡ map (answered_if (takes whose.now) at answer) tickets.old }
 {
-    for ticket in tickets.iter_mut() {
-        answer_if(ticket, whose, at, answer);
+    for k in done..tickets.len() {
+        answer_if(&mut tickets[k], whose, at, answer);
     }
 }
 
 // The same in a list.
-pub(crate) fn answer_listed(tickets: &mut Vec<Ticket>, whose: &Whose, at: u64, answer: Answer)
+pub(crate) fn answer_listed(
+    tickets: &mut Vec<Ticket>,
+    done: usize,
+    whose: &Whose,
+    at: u64,
+    answer: Answer,
+)
+    requires { IsDone done tickets.old.items }
     ensures { tickets.new.items ≡ map (answered_if (takes whose.now) at answer) tickets.old.items }
 {
-    answer_each(tickets.as_mut_slice(), whose, at, answer);
+    answer_each(tickets.as_mut_slice(), done, whose, at, answer);
 }
 
 // Puts the number of a ticket behind others, if it is open and one of those that an answer is for.
@@ -47,7 +64,17 @@ fn push_due(numbers: &mut Vec<u64>, ticket: &Ticket, whose: &Whose)
 }
 
 // Puts the numbers of the open tickets that an answer is for behind others, for which there is room.
-pub(crate) fn list_due(numbers: &mut Vec<u64>, tickets: &[Ticket], whose: &Whose)
+pub(crate) fn list_due(numbers: &mut Vec<u64>, tickets: &[Ticket], done: usize, whose: &Whose)
+    requires done { IsDone done tickets.now }
+    requires room { length numbers.old.items + count_by (is_due (takes whose.now)) tickets.now ≤ vec_capacity numbers.old }
+    ensures list { numbers.new.items ≡ numbers.old.items ++ map number_of (filter (is_due (takes whose.now)) tickets.now) }
+    ensures capacity { vec_capacity numbers.new ≡ vec_capacity numbers.old }
+{
+    list_each(numbers, rest(tickets, done), whose);
+}
+
+// The same of tickets that are all looked at.
+fn list_each(numbers: &mut Vec<u64>, tickets: &[Ticket], whose: &Whose)
     requires room { length numbers.old.items + count_by (is_due (takes whose.now)) tickets.now ≤ vec_capacity numbers.old }
     ensures list { numbers.new.items ≡ numbers.old.items ++ map number_of (filter (is_due (takes whose.now)) tickets.now) }
     ensures capacity { vec_capacity numbers.new ≡ vec_capacity numbers.old }
@@ -58,7 +85,15 @@ pub(crate) fn list_due(numbers: &mut Vec<u64>, tickets: &[Ticket], whose: &Whose
 }
 
 // The lowest number of an open ticket that an answer would be for.
-pub(crate) fn lowest(tickets: &[Ticket], whose: &Whose) -> Option<u64>
+pub(crate) fn lowest(tickets: &[Ticket], done: usize, whose: &Whose) -> Option<u64>
+    requires { IsDone done tickets.now }
+    ensures { result ≡ lowest (takes whose.now) tickets.now }
+{
+    lowest_in(rest(tickets, done), whose)
+}
+
+// The same of tickets that are all looked at.
+fn lowest_in(tickets: &[Ticket], whose: &Whose) -> Option<u64>
     ensures { result ≡ lowest (takes whose.now) tickets.now }
 {
     match tickets.iter().find(|ticket| whose.is_due(ticket)) {
@@ -75,7 +110,15 @@ fn is_open_from(ticket: &Ticket, from: u64) -> bool
 }
 
 // The lowest number of an open ticket that isn't below one.
-pub(crate) fn lowest_from(tickets: &[Ticket], from: u64) -> Option<u64>
+pub(crate) fn lowest_from(tickets: &[Ticket], done: usize, from: u64) -> Option<u64>
+    requires { IsDone done tickets.now }
+    ensures { result ≡ lowest (is_from from) tickets.now }
+{
+    lowest_from_in(rest(tickets, done), from)
+}
+
+// The same of tickets that are all looked at.
+fn lowest_from_in(tickets: &[Ticket], from: u64) -> Option<u64>
     ensures { result ≡ lowest (is_from from) tickets.now }
 {
     match tickets.iter().find(|ticket| is_open_from(ticket, from)) {
@@ -99,11 +142,31 @@ fn is_open_of(ticket: &Ticket, command: u32) -> bool
 }
 
 // How many tickets of a command are open.
-pub(crate) fn count_of(tickets: &[Ticket], command: u32) -> usize
+pub(crate) fn count_of(tickets: &[Ticket], done: usize, command: u32) -> usize
+    requires { IsDone done tickets.now }
+    ensures { result ≡ count_by (is_open_of command) tickets.now }
+{
+    count_in(rest(tickets, done), command)
+}
+
+// The same of tickets that are all looked at.
+fn count_in(tickets: &[Ticket], command: u32) -> usize
     ensures { result ≡ count_by (is_open_of command) tickets.now }
 {
     tickets
         .iter()
         .filter(|ticket| is_open_of(ticket, command))
         .count()
+}
+
+// The place of the first open ticket, or that behind the last ticket, from a place before which none is open.
+pub(crate) fn first_open(tickets: &[Ticket], done: usize) -> usize
+    requires { IsDone done tickets.now }
+    ensures { IsDone result tickets.now }
+{
+    let mut place = done;
+    while place < tickets.len() && !is_open(&tickets[place]) {
+        place += 1;
+    }
+    place
 }

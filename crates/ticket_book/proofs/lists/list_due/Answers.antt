@@ -1,24 +1,20 @@
-use Rattle.std.proofs.Common.{rules, arith, ◌≡◌, ◌≤◌, ◌+◌, ◌∙◌, ap, sym, subst, ℕ, length, count_by, drop}
-use Rattle.std.specs.Vec.{vec_capacity}
+use Rattle.std.proofs.Common.{arith, ◌≡◌, ◌+◌, ◌≤◌, ◌++◌, ◌∙◌, ap, List, ℕ, count_by, length, map}
+use Rattle.std.specs.List.{filter}
+use Rattle.mat_model.specs.Books.{number_of}
+use Rattle.mat_model.specs.declared.book.Ticket.{Ticket}
 use Rattle.ticket_book.specs.Asked.{is_due}
 use Rattle.ticket_book.specs.Whose.{takes}
-use Rattle.ticket_book.proofs.AnswerLemmas.{listed_more, room_here, room_next}
+use Rattle.ticket_book.proofs.DoneLemmas.{count_rest, filter_rest}
 use Rattle.ticket_book.proofs.lists.list_due.Goals as goal
 
-pub push_due-requires : goal.push_due-requires
-push_due-requires c =
-    record {
-      room = room_here (takes c.args.whose.now) c.args.tickets.now c.loop-ticket.ticket-index c.ticket-item.result c.loop-ticket.numbers.items
-          (vec_capacity c.loop-ticket.numbers) c.loop-ticket-test.true c.ticket-item.is c.loop-ticket.invariant.2;
-    }
+pub list_each-requires : goal.list_each-requires
+list_each-requires c =
+    let same = ap (λ (ts : List Ticket). count_by (is_due (takes c.args.whose.now)) ts) c.rest.ensures
+    ∙ count_rest (takes c.args.whose.now) c.args.tickets.now c.args.done c.requires.done in
+    let room = c.requires.room in record { room = omega (arith, same, room) }
 
-pub loop-ticket-preserved : goal.loop-ticket-preserved
-loop-ticket-preserved c = (
-  listed_more (takes c.args.whose.now) c.args.tickets.now c.loop-ticket.ticket-index c.ticket-item.result c.args.numbers.now.items c.loop-ticket.numbers.items
-      c.push_due.new.numbers.items c.loop-ticket-test.true c.ticket-item.is c.loop-ticket.invariant.0 c.push_due.ensures.list,
-  c.push_due.ensures.capacity ∙ c.loop-ticket.invariant.1,
-  subst (λ (room : ℕ). length c.push_due.new.numbers.items + count_by (is_due (takes c.args.whose.now)) (drop (c.loop-ticket.ticket-index + 1) c.args.tickets.now) ≤ room)
-      (sym c.push_due.ensures.capacity)
-      (room_next (takes c.args.whose.now) c.args.tickets.now c.loop-ticket.ticket-index c.ticket-item.result c.loop-ticket.numbers.items c.push_due.new.numbers.items
-      (vec_capacity c.loop-ticket.numbers) c.loop-ticket-test.true c.ticket-item.is c.push_due.ensures.list c.loop-ticket.invariant.2),
-)
+pub returns-clause-list : goal.returns-clause-list
+returns-clause-list c =
+    c.list_each.ensures.list
+    ∙ ap (λ (ts : List Ticket). c.args.numbers.now.items ++ map number_of (filter (is_due (takes c.args.whose.now)) ts)) c.rest.ensures
+    ∙ ap (λ (ts : List Ticket). c.args.numbers.now.items ++ map number_of ts) (filter_rest (takes c.args.whose.now) c.args.tickets.now c.args.done c.requires.done)

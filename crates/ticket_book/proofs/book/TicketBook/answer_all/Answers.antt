@@ -1,18 +1,29 @@
-use Rattle.std.proofs.Common.{rules, arith, ◌≡◌, ◌≤◌, ◌+◌, ◌++◌, ◌∙◌, List, ap, map, length, count_by}
+use Rattle.std.proofs.Common.{rules, arith, ◌≡◌, ◌≤◌, ◌+◌, ◌++◌, ◌∙◌, List, ap, sym, subst, map, length, count_by}
 use Rattle.std.specs.List.{filter}
 use Rattle.std.specs.Vec.{vec_capacity}
 use Rattle.mat_model.specs.Books.{number_of}
 use Rattle.mat_model.specs.declared.book.Ticket.{Ticket}
 use Rattle.ticket_book.specs.Asked.{is_due}
+use Rattle.ticket_book.specs.Done.{IsDone}
 use Rattle.ticket_book.specs.Whose.{takes}
 use Rattle.ticket_book.proofs.AnswerLemmas.{answered_rules, answered_size, room_for}
+use Rattle.ticket_book.proofs.DoneLemmas.{done_answered}
 use Rattle.ticket_book.proofs.book.TicketBook.answer_all.Goals as goal
 
 pub list_due-requires : goal.list_due-requires
 list_due-requires c =
     let room = room_for (takes c.args.whose.now) (record { all = c.self.inside.tickets.items; answered = c.self.inside.answered.items })
     (vec_capacity c.self.inside.answered) c.self.invariant.0 c.self.invariant.1 in
-    let same = ap (λ (ts : List Ticket). count_by (is_due (takes c.args.whose.now)) ts) c.as_slice.ensures.value in record { room = omega (arith, room, same) }
+    let same = ap (λ (ts : List Ticket). count_by (is_due (takes c.args.whose.now)) ts) c.as_slice.ensures.value in record {
+      done = subst (λ (ts : List Ticket). IsDone c.self.inside.done ts) (sym c.as_slice.ensures.value) c.self.invariant.2;
+      room = omega (arith, room, same);
+    }
+
+pub first_open-self-inside-requires : goal.first_open-self-inside-requires
+first_open-self-inside-requires c =
+    subst (λ (ts : List Ticket). IsDone c.self.inside.done ts) (sym c.as_slice-2.ensures.value)
+    (done_answered (takes c.args.whose.now) c.args.at c.args.answer c.self.inside.tickets.items c.answer_listed.new.tickets.items c.self.inside.done c.self.invariant.2
+    c.answer_listed.ensures)
 
 pub invariant_of-self : goal.invariant_of-self
 invariant_of-self c =
@@ -24,4 +35,5 @@ invariant_of-self c =
           c.self.invariant.0 same
           (c.list_due.ensures.list ∙ ap (λ (ts : List Ticket). c.self.inside.answered.items ++ map number_of (filter (is_due (takes c.args.whose.now)) ts)) c.as_slice.ensures.value),
       omega (arith, size, enough, room),
+      subst (λ (ts : List Ticket). IsDone c.first_open-self-inside.result ts) c.as_slice-2.ensures.value c.first_open-self-inside.ensures,
     )

@@ -1,5 +1,6 @@
 use Rattle.std.proofs.Common.{rules, arith}
 use Rattle.ticket_book.proofs.AnswerLemmas.{asked_kept}
+use Rattle.ticket_book.proofs.DoneLemmas.{done_asked}
 use Rattle.ticket_book.proofs.book.TicketBook.ask.Goals as goal
 
 pub invariant_of-self-2 : goal.invariant_of-self-2
@@ -7,4 +8,5 @@ invariant_of-self-2 c = (
   asked_kept c.self.inside.tickets.items c.push_reserved.new.self.items c.self.inside.answered.items c.reserve-2.new.self.items c.args.ticket
       c.self.invariant.0 (search rules) c.requires.open (search rules) (search rules),
   search rules,
+  done_asked c.self.inside.tickets.items c.push_reserved.new.self.items c.args.ticket c.self.inside.done c.self.invariant.2 (search rules),
 )

@@ -4,7 +4,7 @@ use Rattle.std.specs.Vec.{vec_capacity}
 use Rattle.mat_model.specs.Books.{number_of}
 use Rattle.ticket_book.specs.Asked.{is_due}
 use Rattle.ticket_book.specs.Whose.{takes}
-use Rattle.ticket_book.proofs.lists.list_due.Given as goal
+use Rattle.ticket_book.proofs.lists.list_each.Given as goal
 
 -- the numbers of the tickets passed so far are there, and there is room for the others
 abbrev pub invariant-loop-ticket : goal.invariant-loop-ticket
