@@ -1,10 +1,11 @@
-ghost use Rattle.std.specs.Prelude.{◌≡◌, ◌+◌, ◌≤◌, ◌++◌, [], ◌∷◌, ◌<◌, true, count_by, drop, length, map, vec_capacity, if◌then◌else◌};
-ghost use Rattle.std.specs.List.{filter, find};
+ghost use Rattle.std.specs.Prelude.{◌≡◌, ◌+◌, ◌≤◌, ◌++◌, [], ◌∷◌, ◌<◌, true, count_by, drop, length, map, take, vec_capacity, if◌then◌else◌};
+ghost use Rattle.std.specs.List.{filter, find, list_all};
 ghost use Rattle.std.specs.Option.{option_copied};
-ghost use Rattle.mat_model.specs.Books.{number_of};
+ghost use Rattle.mat_model.specs.Books.{are_ascending, number_of};
 ghost use Rattle.mat_model.specs.Requests.{is_open_of};
 ghost use Rattle.mat_model.specs.Tickets.{is_open};
-ghost use Rattle.ticket_book.specs.Asked.{answered_if, is_due, is_from, lowest, ticket_at};
+ghost use Rattle.ticket_book.specs.Asked.{answered_if, is_due, is_earlier, is_from, lowest, ticket_at};
+ghost use Rattle.ticket_book.specs.Found.{first_if, is_past};
 ghost use Rattle.ticket_book.specs.Done.{IsDone};
 ghost use Rattle.ticket_book.specs.Whose.{takes};
 
@@ -111,10 +112,15 @@ fn is_open_from(ticket: &Ticket, from: u64) -> bool
 
 // The lowest number of an open ticket that isn't below one.
 pub(crate) fn lowest_from(tickets: &[Ticket], done: usize, from: u64) -> Option<u64>
-    requires { IsDone done tickets.now }
+    requires done { IsDone done tickets.now }
+    requires ascending { are_ascending (map number_of tickets.now) ≡ true }
     ensures { result ≡ lowest (is_from from) tickets.now }
 {
-    lowest_from_in(rest(tickets, done), from)
+    let place = place_from(tickets, from);
+    if place < done {
+        return lowest_from_in(rest(tickets, done), from);
+    }
+    lowest_from_in(rest(tickets, place), from)
 }
 
 // The same of tickets that are all looked at.
@@ -127,11 +133,37 @@ fn lowest_from_in(tickets: &[Ticket], from: u64) -> Option<u64>
     }
 }
 
-// The ticket of a number.
+// The place of the first ticket whose number isn't below one, found by halves.
+fn place_from(tickets: &[Ticket], number: u64) -> usize
+    requires { are_ascending (map number_of tickets.now) ≡ true }
+    ensures within { result ≤ length tickets.now }
+    ensures front { list_all (is_earlier number) (take result tickets.now) ≡ true }
+    ensures back { list_all (is_past number) (drop result tickets.now) ≡ true }
+{
+    tickets.partition_point(|ticket| ticket.number < number)
+}
+
+// The first ticket, if it has a number.
+fn first_if(tickets: &[Ticket], number: u64) -> Option<&Ticket>
+    ensures { option_copied result ≡ first_if number tickets.now }
+{
+    match tickets {
+        [] => None,
+        [ticket, ..] => {
+            if ticket.number == number {
+                return Some(ticket);
+            }
+            None
+        }
+    }
+}
+
+// The ticket of a number, found by halves.
 pub(crate) fn ticket_at(tickets: &[Ticket], number: u64) -> Option<&Ticket>
+    requires { are_ascending (map number_of tickets.now) ≡ true }
     ensures { option_copied result ≡ ticket_at tickets.now number }
 {
-    tickets.iter().find(|ticket| ticket.number == number)
+    first_if(rest(tickets, place_from(tickets, number)), number)
 }
 
 // Whether a ticket is open and a command's.
