@@ -1,7 +1,7 @@
 -- The rules of a book's tickets, where one comes and where some are answered.
-use Rattle.std.proofs.Common.{◌≡◌, ◌+◌, ◌<◌, ◌≤◌, ℕ, suc, nat_lt, Bool, true, false, not, ◌&&◌, cond, List, [], ◌∷◌, ◌++◌, map, take, drop, get_or, length, length-append, refl, ◌∙◌, sym, ap, subst, arith, count_by}
+use Rattle.std.proofs.Common.{◌≡◌, ◌+◌, ◌<◌, ◌≤◌, ℕ, suc, nat_lt, Bool, true, false, ◌&&◌, cond, List, [], ◌∷◌, ◌++◌, map, take, drop, get_or, length, length-append, refl, ◌∙◌, sym, ap, subst, arith, count_by}
 use Rattle.std.proofs.lemmas.Bool.{and_from, and_parts}
-use Rattle.std.proofs.lemmas.List.{append-nil, append_assoc, length-map, map-append}
+use Rattle.std.proofs.lemmas.List.{append_assoc, length-map, map-append}
 use Rattle.std.proofs.lemmas.List.Elements.{filter-append}
 use Rattle.std.proofs.lemmas.List.Sums.{length-filter, sum_by-append, sum_by-cons}
 use Rattle.std.proofs.Math.Seq.{drop-cons, take-suc}
@@ -10,7 +10,7 @@ use Rattle.mat_model.specs.declared.answers.Answer.{Answer}
 use Rattle.mat_model.specs.declared.book.Ticket.{Ticket}
 use Rattle.mat_model.specs.Books.{are_ascending, number_of}
 use Rattle.mat_model.specs.Tickets.{is_open, with_answer}
-use Rattle.ticket_book.specs.Asked.{AreTickets, Tickets, answer_all, answered_if, is_due, is_earlier, with_ticket}
+use Rattle.ticket_book.specs.Asked.{AreTickets, Tickets, answer_all, answered_if, is_due, is_earlier}
 
 -- ---- counting
 

@@ -1,5 +1,5 @@
 -- Tickets that are answered stay as they are, and are never due.
-use Rattle.std.proofs.Common.{◌≡◌, ◌+◌, ◌<◌, ◌≤◌, ℕ, suc, Bool, true, false, not, ◌&&◌, cond, List, [], ◌∷◌, ◌++◌, map, take, drop, get_or, slice_set, length, length-append, refl, ◌∙◌, sym, ap, subst, arith, count_by, Option, Some, None}
+use Rattle.std.proofs.Common.{◌≡◌, ◌+◌, ◌<◌, ℕ, suc, Bool, true, false, not, ◌&&◌, cond, List, [], ◌∷◌, ◌++◌, map, take, drop, get_or, slice_set, length, length-append, refl, ◌∙◌, sym, ap, arith, count_by, Option, Some, None}
 use Rattle.std.proofs.lemmas.Bool.{and_from, and_parts}
 use Rattle.std.proofs.lemmas.List.{length-map, length-take, map-append, take-append-drop, take-append-le, take_all}
 use Rattle.std.proofs.lemmas.List.Edits.{map_over_more}

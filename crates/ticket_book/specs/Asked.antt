@@ -1,6 +1,6 @@
 -- The tickets of a book, as its contracts see them beside the definitions of the model.
-use Rattle.std.specs.Prelude.{◌≡◌, ◌+◌, ℕ, nat_le, nat_lt, ◌==◌, ◌&&◌, Bool, true, if◌then◌else◌, List, [], ◌∷◌, ◌++◌, length, map, Option, Some, None, count_by}
-use Rattle.std.specs.List.{filter, find, list_all}
+use Rattle.std.specs.Prelude.{◌≡◌, ◌+◌, ℕ, nat_le, nat_lt, ◌==◌, ◌&&◌, Bool, true, if◌then◌else◌, List, [], ◌∷◌, ◌++◌, length, map, Option, count_by}
+use Rattle.std.specs.List.{filter, find}
 use Rattle.std.specs.Option.{option_map}
 use Rattle.mat_path.specs.Names.{is_prefix, overlap}
 use Rattle.mat_model.specs.declared.answers.Answer.{Answer}

@@ -1,5 +1,5 @@
 -- Which tickets an answer is for.
-use Rattle.std.specs.Prelude.{ℕ, Bool}
+use Rattle.std.specs.Prelude.{Bool}
 use Rattle.mat_model.specs.declared.book.Ticket.{Ticket}
 use Rattle.ticket_book.specs.Asked.{asks_below, asks_for, asks_over, has_number}
 use Rattle.ticket_book.specs.declared.whose.Whose.{Whose}

@@ -1,4 +1,4 @@
-use Rattle.std.proofs.Common.{◌≡◌, ◌≤◌, ◌++◌, map, take, drop}
+use Rattle.std.proofs.Common.{◌≡◌, ◌++◌, map, take, drop}
 use Rattle.ticket_book.specs.Asked.{answered_if}
 use Rattle.ticket_book.specs.Whose.{takes}
 use Rattle.ticket_book.proofs.lists.answer_each.Given as goal

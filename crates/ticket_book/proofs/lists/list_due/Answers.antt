@@ -1,4 +1,4 @@
-use Rattle.std.proofs.Common.{arith, ◌≡◌, ◌+◌, ◌≤◌, ◌++◌, ◌∙◌, ap, List, ℕ, count_by, length, map}
+use Rattle.std.proofs.Common.{arith, ◌++◌, ◌∙◌, ap, List, count_by, map}
 use Rattle.std.specs.List.{filter}
 use Rattle.mat_model.specs.Books.{number_of}
 use Rattle.mat_model.specs.declared.book.Ticket.{Ticket}

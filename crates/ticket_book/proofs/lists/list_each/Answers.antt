@@ -1,4 +1,4 @@
-use Rattle.std.proofs.Common.{rules, arith, ◌≡◌, ◌≤◌, ◌+◌, ◌∙◌, ap, sym, subst, ℕ, length, count_by, drop}
+use Rattle.std.proofs.Common.{◌≤◌, ◌+◌, ◌∙◌, sym, subst, ℕ, length, count_by, drop}
 use Rattle.std.specs.Vec.{vec_capacity}
 use Rattle.ticket_book.specs.Asked.{is_due}
 use Rattle.ticket_book.specs.Whose.{takes}

@@ -1,4 +1,4 @@
-use Rattle.std.proofs.Common.{rules, arith, ◌≡◌, ◌≤◌, ◌+◌, ◌++◌, ◌∙◌, List, ap, sym, subst, map, length, count_by}
+use Rattle.std.proofs.Common.{arith, ◌++◌, ◌∙◌, List, ap, sym, subst, map, count_by}
 use Rattle.std.specs.List.{filter}
 use Rattle.std.specs.Vec.{vec_capacity}
 use Rattle.mat_model.specs.Books.{number_of}

@@ -1,4 +1,4 @@
-use Rattle.std.proofs.Common.{rules, arith}
+use Rattle.std.proofs.Common.{rules}
 use Rattle.ticket_book.proofs.AnswerLemmas.{asked_kept}
 use Rattle.ticket_book.proofs.DoneLemmas.{done_asked}
 use Rattle.ticket_book.proofs.book.TicketBook.ask.Goals as goal
