@@ -1,6 +1,8 @@
 use crate::{RowRefusal, read_row, row_is_one, rows_are_read, write_row};
+use mat_digest::Digest;
 use std::alloc::Global;
 use std::test::Fail;
+use tree_words::read_words;
 
 /// The SHA-256 of `abc` (FIPS 180-4, its first example).
 const HASH: &[u8; 32] =
@@ -63,6 +65,42 @@ fn directories_are_written_as_they_were_read(rt: HostRuntime) -> Result<(), Fail
     let again = read_row(alloc, row.as_slice())?;
     assert_eq!(rt; again.identity, Some(1 << 63));
     assert_eq!(rt; again.tree.same(&read.tree), true);
+    Ok(())
+}
+
+/// Puts the words of a file of these bytes behind.
+fn push_file(out: &mut Vec<u8>, kind: &[u8], bytes: &[u8], rel: &[u8]) -> Result<(), Fail> {
+    out.extend_from_slice(kind)?;
+    out.extend_from_slice(Digest::of(bytes).write_text().bytes())?;
+    out.extend_from_slice(rel)?;
+    Ok(())
+}
+
+/// The words of an application: programs, a library under two names, and nine resources of the same bytes.
+fn application(alloc: Global) -> Result<Vec<u8>, Fail> {
+    let mut words = Vec::from_slice(alloc, b"d . d bin")?;
+    push_file(&mut words, b" x ", b"abc", b" bin/app")?;
+    push_file(&mut words, b" x ", b"a", b" bin/tool")?;
+    words.extend_from_slice(b" d lib l libapp.so.1 lib/libapp.so")?;
+    push_file(&mut words, b" f ", b"b", b" lib/libapp.so.1")?;
+    words.extend_from_slice(b" d res")?;
+    for digit in b"012345678" {
+        push_file(&mut words, b" f ", b"c", b" res/r")?;
+        words.push(*digit)?;
+    }
+    Ok(words)
+}
+
+#[test]
+fn an_application_comes_back(rt: HostRuntime) -> Result<(), Fail> {
+    let alloc = rt.alloc();
+    let words = application(alloc)?;
+    let tree = read_words(alloc, words.as_slice())?;
+    assert_eq!(rt; (tree.nodes(), tree.bytes()), (17, 14));
+    let row = write_row(alloc, &tree, 0)?;
+    let again = read_row(alloc, row.as_slice())?;
+    assert_eq!(rt; again.identity, Some(0));
+    assert_eq!(rt; again.tree.same(&tree), true);
     Ok(())
 }
 

@@ -10,6 +10,7 @@ use mat_digest::Digest;
 use mat_path::{Memory, Rel};
 use mat_tree::{Flat, Tree, What};
 use std::alloc::Global;
+use tree_words::push_text;
 
 /// Writes the row of version 2 of a tree and an identity. It is read as these again.
 pub fn write_row(alloc: Global, tree: &Tree, identity: u64) -> Result<Vec<u8>, Memory>
@@ -38,14 +39,6 @@ fn push_u64(out: &mut Vec<u8>, number: u64) -> Result<(), Memory>
     ensures { OnOk result (out.new.items ≡ out.old.items ++ to_be_bytes w64 number) }
 {
     out.extend_from_slice(&number.to_be_bytes())?;
-    Ok(())
-}
-
-// Appends bytes.
-fn push_text(out: &mut Vec<u8>, text: &[u8]) -> Result<(), Memory>
-    ensures { OnOk result (out.new.items ≡ out.old.items ++ text.now) }
-{
-    out.extend_from_slice(text)?;
     Ok(())
 }
 
