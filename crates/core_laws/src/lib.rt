@@ -1,0 +1,20 @@
+//! Floor of the machine: what holds of the disk at a point, each law a public function without a body whose clause is the law.
+#![tactic(auto)]
+
+mod disk_laws;
+mod loan_laws;
+mod tied_laws;
+
+pub use disk_laws::{
+    give_brings_part, give_leaves_others, same_keeps_bare, take_and_give_is_same,
+    take_leaves_nothing, take_leaves_others,
+};
+pub use loan_laws::{
+    begin_keeps_loans, end_keeps_loans, fewer_loans_are_apart, free_path_is_not_lent,
+    give_keeps_out, loan_is_lent, loans_lie_apart, take_keeps_out,
+};
+pub use tied_laws::{
+    away_row_is_clear, begin_keeps_clear, begin_keeps_tied, debris_is_clear, end_keeps_tied,
+    fewer_spoken_are_tied, give_brings_tree, give_keeps_tied, loan_is_clear, read_row_is_away,
+    rows_keep_tied, same_keeps_tree, take_keeps_tied,
+};
