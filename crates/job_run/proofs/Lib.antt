@@ -1,0 +1,9 @@
+pub mod Beginnings
+pub mod Calling
+pub mod DigestLemmas
+pub mod Fillings
+pub mod Gets
+pub mod Grown
+pub mod Nexts
+pub mod Puts
+pub mod Takings

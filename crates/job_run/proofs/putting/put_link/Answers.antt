@@ -1,0 +1,16 @@
+use Rattle.std.proofs.Common.{ℕ, List, ◌∷◌, ◌∙◌, sym, subst, arith}
+use Rattle.job_run.specs.Stages.{making_cost}
+use Rattle.job_run.specs.States.{Continues}
+use Rattle.job_run.specs.declared.states.Doing.TheVariants as doing
+use Rattle.job_run.proofs.Puts.{link_put}
+use Rattle.job_run.proofs.putting.put_link.Goals as goal
+
+pub after_node-requires-clause-behind : goal.after_node-requires-clause-behind
+after_node-requires-clause-behind g c = λ none.
+    link_put (g.R.Region.place c.args.region) (g.R.Region.place c.put_link-failure.new.region) (g.R.Region.part c.args.region) (g.R.Region.part c.put_link-failure.new.region)
+    c.args.order c.args.rel c.args.target c.put_link-failure.result c.put_link-failure.ensures.place c.requires c.put_link-failure.ensures.part none
+
+pub returns-clause-goes : goal.returns-clause-goes
+returns-clause-goes g c =
+    subst (λ (p : List (List ℕ)). Continues p c.args.order.tree c.args.order.lent (making_cost c.args.order (doing.Link c.args.rel c.args.target)) c.after_node.result)
+    c.put_link-failure.ensures.place (c.after_node.ensures.goes (making_cost c.args.order (doing.Link c.args.rel c.args.target)) (omega arith))

@@ -1,0 +1,10 @@
+pub mod Begun
+pub mod Failures
+pub mod Growing
+pub mod Orders
+pub mod Pieces
+pub mod Readings
+pub mod Stages
+pub mod States
+pub mod Steps
+pub mod StoreCalls

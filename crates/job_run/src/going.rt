@@ -1,0 +1,75 @@
+// How a job goes on behind a device call, and how it stops.
+ghost use Rattle.std.specs.Prelude.{◌≡◌, ◌<◌, ◌+◌, ℕ, List, Option, Some, None};
+ghost use Rattle.mat_tree.specs.declared.flat.Flat.{Flat};
+ghost use Rattle.region_port.specs.States.{state_region};
+ghost use Rattle.job_run.specs.Failures.{IsDiskWhy};
+ghost use Rattle.job_run.specs.Orders.{acts_cost};
+ghost use Rattle.job_run.specs.Stages.{IsBehind, IsMaking, making_cost};
+ghost use Rattle.job_run.specs.States.{Continues, IsStopped, failure_of, region_of};
+
+use crate::acts;
+use crate::states::{Doing, Filing, Filling, Making, Order, State};
+use mat_model::Outcome;
+use region_port::{Part, Region, Rough};
+
+/// A job that ends with a failure.
+pub(crate) fn stop<R: Region>(region: R, outcome: Outcome) -> State<R>
+    ensures { IsStopped region outcome result }
+{
+    State::Ended(Part::Rough(Rough::new(region)), outcome)
+}
+
+/// A make at the act behind a node that was put.
+pub(crate) fn go_on<R: Region>(region: R, mut order: Order) -> Making<R>
+    requires { IsBehind (R.place region) (R.part region) order }
+    ensures region { result.region ≡ region }
+    ensures tree { result.order.tree ≡ order.tree }
+    ensures lent { result.order.lent ≡ order.lent }
+    ensures stands { IsMaking (R.place region) (R.part region) result.order result.doing }
+    ensures cost { making_cost result.order result.doing ≡ acts_cost order.left.items }
+{
+    let doing = acts::next(&mut order);
+    Making {
+        region,
+        order,
+        doing,
+    }
+}
+
+/// What a put of a node leads to, by how the call failed.
+pub(crate) fn after_node<R: Region>(region: R, order: Order, failure: Option<Outcome>) -> State<R>
+    requires behind { failure ≡ None → IsBehind (R.place region) (R.part region) order }
+    requires why { IsDiskWhy failure }
+    ensures region { region_of result ≡ Some region }
+    ensures failure { failure_of result ≡ failure }
+    ensures goes { (cost : ℕ) → acts_cost order.left.items < cost → Continues (R.place region) order.tree order.lent cost result }
+{
+    match failure {
+        None => State::Making(go_on(region, order)),
+        Some(why) => stop(region, why),
+    }
+}
+
+/// What a put of a piece that isn't the last leads to, by how the call failed; the file goes on so.
+pub(crate) fn after_piece<R: Region>(
+    region: R,
+    order: Order,
+    filing: Filing,
+    how: Filling,
+    failure: Option<Outcome>,
+) -> State<R>
+    requires stands { failure ≡ None → IsMaking (R.place region) (R.part region) order (Doing.File filing how) }
+    requires why { IsDiskWhy failure }
+    ensures region { region_of result ≡ Some region }
+    ensures failure { failure_of result ≡ failure }
+    ensures goes { (cost : ℕ) → making_cost order (Doing.File filing how) < cost → Continues (R.place region) order.tree order.lent cost result }
+{
+    match failure {
+        None => State::Making(Making {
+            region,
+            order,
+            doing: Doing::File(filing, how),
+        }),
+        Some(why) => stop(region, why),
+    }
+}

@@ -1,0 +1,15 @@
+//! Floor of the machine: jobs that make a part of a disk have a tree, or leave it empty, in steps of one device call each.
+#![tactic(auto)]
+
+mod acts;
+mod calls;
+mod ending;
+mod failure;
+mod getting;
+mod going;
+mod lending;
+mod pieces;
+mod putting;
+mod reading;
+mod states;
+mod stepping;
