@@ -1,7 +1,9 @@
 pub mod Beginnings
 pub mod Calling
+pub mod Counting
 pub mod DigestLemmas
 pub mod Fillings
+pub mod Finishing
 pub mod Gets
 pub mod Grown
 pub mod Nexts

@@ -17,6 +17,9 @@ use Rattle.job_run.specs.Failures.{Changes, IsDiskFailure, IsDiskWhy}
 use Rattle.job_run.specs.Growing.{Grows, HasNodes, dir_node, file_node, link_node, with_piece}
 use Rattle.job_run.specs.Orders.{IsLeft, IsMakeable, file_cost, held_bytes}
 use Rattle.job_run.specs.Pieces.{most_bytes}
+use Rattle.region_port.specs.declared.port.Region.{Ghosts}
+use Rattle.job_run.specs.Steps.{CallsPart}
+use Rattle.job_run.specs.declared.states.State.{State}
 use Rattle.job_run.specs.Stages.{IsBehind, IsMaking, filing_node, filling_cost}
 use Rattle.job_run.specs.declared.states.Doing.{Doing}
 use Rattle.job_run.specs.declared.states.Doing.TheVariants as doing
@@ -226,3 +229,10 @@ got_less place part order filing from at piece reading m =
     let whole : length piece.items ≡ most_bytes = h.follows.1 in
     let within : length (h.given ++ piece.items) ≤ filing.digest.size = h.follows.2 in
     omega arith
+
+-- ---- calls of a stage
+
+pub called_from : {R : Type 0} {g : Ghosts R} (o : Option R) (region : R) (s : State R g) → o ≡ Some region → CallsPart region s → ForSome o (λ (before : R). CallsPart before s)
+called_from {R} {g} o region s is calls = λ before told.
+    let same : region ≡ before = cc in
+    subst (λ (r : R). CallsPart {g = g} r s) same calls

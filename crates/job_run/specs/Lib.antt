@@ -1,6 +1,8 @@
 pub mod Begun
+pub mod Done
 pub mod Failures
 pub mod Growing
+pub mod Jobs
 pub mod Orders
 pub mod Pieces
 pub mod Readings

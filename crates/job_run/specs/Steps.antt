@@ -5,8 +5,16 @@ use Rattle.mat_tree.specs.Parts.{bare}
 use Rattle.mat_tree.specs.Parts.{Part as TreePart}
 use Rattle.mat_tree.specs.declared.flat.Flat.{Flat}
 use Rattle.region_port.specs.declared.port.Region.{Ghosts}
+use Rattle.fetch_port.specs.Fetches.{Blobs}
+use Rattle.fetch_port.specs.Watches.{Watch}
+use Rattle.mat_model.specs.declared.entries.Outcome.{Outcome}
+use Rattle.region_port.specs.States.{loan_region, loan_tree}
+use Rattle.region_port.specs.declared.states.ReadLoan.{ReadLoan}
+use Rattle.job_run.specs.Failures.{IsDiskCall}
+use Rattle.job_run.specs.StoreCalls.{IsStoreCall}
+use Rattle.job_run.specs.declared.states.Filing.{Filing}
 use Rattle.job_run.specs.Orders.{IsLeft, IsMakeable}
-use Rattle.job_run.specs.States.{HasEnded, IsMakeOf}
+use Rattle.job_run.specs.States.{HasEnded, IsMakeOf, failure_of, region_of}
 use Rattle.job_run.specs.declared.states.Doing.{Doing}
 use Rattle.job_run.specs.declared.states.Doing.TheVariants as doing
 use Rattle.job_run.specs.declared.states.Filling.{Filling}
@@ -55,3 +63,54 @@ Stands {R} {g} place goal lent (state.Making making) =
     (goal ≡ Some making.order.tree) × IsMakeOf place making.order.tree lent (g.place making.region) (g.part making.region) making.order making.doing
 Stands place goal lent (state.Ended left ended) = HasEnded place goal left ended
 Stands place goal lent state.Moving = ⊥
+
+-- ---- what one step calls
+
+-- one call on a job's part, and none elsewhere
+abbrev pub CallsPart : {R : Type 0} {g : Ghosts R} → R → State R g → Type 0
+CallsPart {R} {g} region s =
+    ForSome (region_of s) (λ (now : R). IsDiskCall (g.fault_count region) (g.fault_count now) (g.watch region) (g.watch now) (failure_of s))
+
+-- one call on the part that is lent: it stays as it is, but for its counts
+pub record IsLoanCall {R : Type 0} (g : Ghosts R) (old new : ReadLoan R) (failure : Option Outcome) : Type 0 where
+  pub tree : loan_tree new ≡ loan_tree old
+  pub place : g.place (loan_region new) ≡ g.place (loan_region old)
+  pub part : g.part (loan_region new) ≡ g.part (loan_region old)
+  pub rough : g.rough (loan_region new) ≡ g.rough (loan_region old)
+  pub call : IsDiskCall (g.fault_count (loan_region old)) (g.fault_count (loan_region new)) (g.watch (loan_region old)) (g.watch (loan_region new)) failure
+
+abbrev pub CallsLoan : {R : Type 0} → Ghosts R → Option (ReadLoan R) → Option (ReadLoan R) → Option Outcome → Type 0
+CallsLoan g None new failure = ⊥
+CallsLoan g (Some old) None failure = ⊥
+CallsLoan g (Some old) (Some new) failure = IsLoanCall g old new failure
+
+-- what a store tells before and after a call
+pub record Told : Type 0 where
+  pub holds : Option Blobs
+  pub faults : ℕ
+  pub fetches : ℕ
+  pub watch : Option Watch
+
+abbrev pub told_now : Option Blobs → ℕ → ℕ → Option Watch → Told
+told_now holds faults fetches watch = record { holds = holds; faults = faults; fetches = fetches; watch = watch }
+
+-- one call on the store for the next piece of a file
+abbrev pub FillingAsks : Filing → Filling → Told → Told → Option Outcome → Type 0
+FillingAsks filing (filling.Held at) old new failure = ⊥
+FillingAsks filing (filling.Due from reading) old new failure =
+    IsStoreCall filing.digest reading old.holds old.faults new.faults old.fetches new.fetches old.watch new.watch failure
+FillingAsks filing (filling.Got from at piece more) old new failure = ⊥
+
+abbrev pub DoingAsks : Doing → Told → Told → Option Outcome → Type 0
+DoingAsks (doing.Dir rel) old new failure = ⊥
+DoingAsks (doing.Link rel target) old new failure = ⊥
+DoingAsks (doing.File filing how) old new failure = FillingAsks filing how old new failure
+DoingAsks doing.Sync old new failure = ⊥
+
+abbrev pub StateAsks : {R : Type 0} {g : Ghosts R} → State R g → Told → Told → Option Outcome → Type 0
+StateAsks (state.Wiping region) old new failure = ⊥
+StateAsks (state.Emptying region) old new failure = ⊥
+StateAsks (state.Clearing region order) old new failure = ⊥
+StateAsks (state.Making making) old new failure = DoingAsks making.doing old new failure
+StateAsks (state.Ended left ended) old new failure = ⊥
+StateAsks state.Moving old new failure = ⊥

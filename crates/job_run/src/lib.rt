@@ -7,9 +7,12 @@ mod ending;
 mod failure;
 mod getting;
 mod going;
+mod job;
 mod lending;
 mod pieces;
 mod putting;
 mod reading;
 mod states;
 mod stepping;
+
+pub use job::{Done, Job, Next, Stepped};

@@ -6,7 +6,7 @@ ghost use Rattle.region_port.specs.States.{loan_region, loan_tree};
 ghost use Rattle.job_run.specs.Failures.{IsDiskCall};
 ghost use Rattle.job_run.specs.Stages.{IsMaking, making_cost};
 ghost use Rattle.job_run.specs.States.{Continues, failure_of, has_ended, region_of, state_cost};
-ghost use Rattle.job_run.specs.Steps.{Stands, doing_spot, loan_call, part_call, state_spot, store_call};
+ghost use Rattle.job_run.specs.Steps.{CallsLoan, CallsPart, DoingAsks, FillingAsks, Stands, StateAsks, doing_spot, filling_spot, loan_call, part_call, state_spot, store_call, told_now};
 
 use crate::ending::{clear, empty, settle, wipe};
 use crate::getting::fetch;
@@ -29,6 +29,10 @@ fn fill<R: Region, F: Fetcher>(
     requires lent { order.lent ≡ is_some loan.old }
     ensures goes { Continues (R.place region) order.tree order.lent (making_cost order (Doing.File filing how)) result }
     ensures loan { is_some loan.new ≡ is_some loan.old }
+    ensures on_part { filling_spot how ≡ part_call → CallsPart region result × (loan.new ≡ loan.old) × (fetcher.new ≡ fetcher.old) }
+    ensures on_loan { filling_spot how ≡ loan_call → (region_of result ≡ Some region) × CallsLoan ⟦<R as Region>⟧ loan.old loan.new (failure_of result) × (fetcher.new ≡ fetcher.old) }
+    ensures on_store { filling_spot how ≡ store_call → (region_of result ≡ Some region) × (loan.new ≡ loan.old) × FillingAsks filing how (told_now (F.holds fetcher.old) (F.fault_count fetcher.old) (F.fetches fetcher.old) (F.watch fetcher.old)) (told_now (F.holds fetcher.new) (F.fault_count fetcher.new) (F.fetches fetcher.new) (F.watch fetcher.new)) (failure_of result) }
+    ensures holds { F.holds fetcher.new ≡ F.holds fetcher.old }
 {
     match how {
         Filling::Held { at } => put_held(region, order, filing, at),
@@ -45,5 +49,59 @@ fn fill<R: Region, F: Fetcher>(
                 None => unreachable!(),
             },
         },
+    }
+}
+
+/// A step of a make.
+fn make<R: Region, F: Fetcher>(
+    making: Making<R>,
+    loan: &mut Option<ReadLoan<R>>,
+    fetcher: &mut F,
+) -> State<R>
+    requires stands { IsMaking (R.place making.region) (R.part making.region) making.order making.doing }
+    requires lent { making.order.lent ≡ is_some loan.old }
+    ensures goes { Continues (R.place making.region) making.order.tree making.order.lent (making_cost making.order making.doing) result }
+    ensures loan { is_some loan.new ≡ is_some loan.old }
+    ensures on_part { doing_spot making.doing ≡ part_call → CallsPart making.region result × (loan.new ≡ loan.old) × (fetcher.new ≡ fetcher.old) }
+    ensures on_loan { doing_spot making.doing ≡ loan_call → (region_of result ≡ Some making.region) × CallsLoan ⟦<R as Region>⟧ loan.old loan.new (failure_of result) × (fetcher.new ≡ fetcher.old) }
+    ensures on_store { doing_spot making.doing ≡ store_call → (region_of result ≡ Some making.region) × (loan.new ≡ loan.old) × DoingAsks making.doing (told_now (F.holds fetcher.old) (F.fault_count fetcher.old) (F.fetches fetcher.old) (F.watch fetcher.old)) (told_now (F.holds fetcher.new) (F.fault_count fetcher.new) (F.fetches fetcher.new) (F.watch fetcher.new)) (failure_of result) }
+    ensures holds { F.holds fetcher.new ≡ F.holds fetcher.old }
+{
+    let Making {
+        region,
+        order,
+        doing,
+    } = making;
+    match doing {
+        Doing::Dir(rel) => put_dir(region, order, rel),
+        Doing::Link(rel, target) => put_link(region, order, rel, target),
+        Doing::File(filing, how) => fill(region, order, filing, how, loan, fetcher),
+        Doing::Sync => settle(region, order),
+    }
+}
+
+/// A step of a job.
+pub(crate) fn advance<R: Region, F: Fetcher>(
+    state: State<R>,
+    loan: &mut Option<ReadLoan<R>>,
+    fetcher: &mut F,
+) -> State<R>
+    requires stands { (place : List (List ℕ)) × (goal : Option (List Flat)) × Stands place goal (is_some loan.old) state }
+    requires going { has_ended state ≡ false }
+    ensures stands { (place : List (List ℕ)) (goal : Option (List Flat)) → Stands place goal (is_some loan.old) state → Stands place goal (is_some loan.old) result }
+    ensures less { state_cost result < state_cost state }
+    ensures loan { is_some loan.new ≡ is_some loan.old }
+    ensures on_part { state_spot state ≡ part_call → ForSome (region_of state) (λ before. CallsPart before result) × (loan.new ≡ loan.old) × (fetcher.new ≡ fetcher.old) }
+    ensures on_loan { state_spot state ≡ loan_call → (region_of result ≡ region_of state) × CallsLoan ⟦<R as Region>⟧ loan.old loan.new (failure_of result) × (fetcher.new ≡ fetcher.old) }
+    ensures on_store { state_spot state ≡ store_call → (region_of result ≡ region_of state) × (loan.new ≡ loan.old) × StateAsks state (told_now (F.holds fetcher.old) (F.fault_count fetcher.old) (F.fetches fetcher.old) (F.watch fetcher.old)) (told_now (F.holds fetcher.new) (F.fault_count fetcher.new) (F.fetches fetcher.new) (F.watch fetcher.new)) (failure_of result) }
+    ensures holds { F.holds fetcher.new ≡ F.holds fetcher.old }
+{
+    match state {
+        State::Wiping(region) => wipe(region),
+        State::Emptying(region) => empty(region),
+        State::Clearing(region, order) => clear(region, order),
+        State::Making(making) => make(making, loan, fetcher),
+        State::Ended(..) => unreachable!(),
+        State::Moving => unreachable!(),
     }
 }

@@ -1,0 +1,65 @@
+use Rattle.std.proofs.Common.{◌≡◌, refl, sym, ap, ◌∙◌}
+use Rattle.std.specs.Option.{is_some}
+use Rattle.job_run.specs.Done.{task_path}
+use Rattle.job_run.specs.Jobs.{goal_tree}
+use Rattle.job_run.specs.Steps.{state_spot, told_now}
+use Rattle.job_run.proofs.Counting.{calls_moved, counted_after, counts_moved, stands_lent, stands_moved}
+use Rattle.job_run.proofs.job.Job.step.Goals as goal
+
+pub advance-next-requires-clause-stands : goal.advance-next-requires-clause-stands
+advance-next-requires-clause-stands g c =
+    let j = c.args.self.now in (
+      task_path j.card.task,
+      goal_tree j.goal.value,
+      stands_moved (task_path j.card.task) (goal_tree j.goal.value) (is_some j.loan) j.state c.replace-state.result c.replace-state.ensures.value c.requires.job.stands,
+    )
+
+pub returns-then-is_over-clause-job : goal.returns-then-is_over-clause-job
+returns-then-is_over-clause-job g c =
+    let j = c.args.self.now in
+    let f = g.F.Fetcher in
+    let taken = stands_moved (task_path j.card.task) (goal_tree j.goal.value) (is_some j.loan) j.state c.replace-state.result c.replace-state.ensures.value c.requires.job.stands in
+    record {
+      stands = stands_moved (task_path j.card.task) (goal_tree j.goal.value) (is_some c.advance-next.new.loan) c.advance-next.result c.settle_in.new.place c.settle_in.ensures
+          (stands_lent (task_path j.card.task) (goal_tree j.goal.value) (is_some j.loan) (is_some c.advance-next.new.loan) c.advance-next.result c.advance-next.ensures.loan
+          (c.advance-next.ensures.stands (task_path j.card.task) (goal_tree j.goal.value) taken));
+      kind = c.requires.job.kind;
+      counts = counts_moved c.advance-next.result c.settle_in.new.place c.advance-next.new.loan c.settle_in.ensures
+          (counted_after (task_path j.card.task) (goal_tree j.goal.value) (is_some j.loan) c.replace-state.result c.advance-next.result j.loan c.advance-next.new.loan
+          (told_now (f.holds c.args.fetcher.now) (f.fault_count c.args.fetcher.now) (f.fetches c.args.fetcher.now) (f.watch c.args.fetcher.now))
+          (told_now (f.holds c.advance-next.new.fetcher) (f.fault_count c.advance-next.new.fetcher) (f.fetches c.advance-next.new.fetcher) (f.watch c.advance-next.new.fetcher))
+          taken (λ spot. (c.advance-next.ensures.on_part spot).0) (λ spot. (c.advance-next.ensures.on_loan spot).1) (λ spot. (c.advance-next.ensures.on_store spot).2));
+    }
+
+pub returns-then-is_over-clause-on_part : goal.returns-then-is_over-clause-on_part
+returns-then-is_over-clause-on_part g c = λ spot.
+    let all = c.advance-next.ensures.on_part (ap state_spot c.replace-state.ensures.value ∙ spot) in (
+      calls_moved c.args.self.now.state c.replace-state.result c.advance-next.result c.settle_in.new.place c.replace-state.ensures.value c.settle_in.ensures all.0,
+      all.1,
+      all.2,
+    )
+
+pub returns-clause-job : goal.returns-clause-job
+returns-clause-job g c =
+    let j = c.args.self.now in
+    let f = g.F.Fetcher in
+    let taken = stands_moved (task_path j.card.task) (goal_tree j.goal.value) (is_some j.loan) j.state c.replace-state.result c.replace-state.ensures.value c.requires.job.stands in
+    record {
+      stands = stands_moved (task_path j.card.task) (goal_tree j.goal.value) (is_some c.advance-next.new.loan) c.advance-next.result c.settle_in.new.place c.settle_in.ensures
+          (stands_lent (task_path j.card.task) (goal_tree j.goal.value) (is_some j.loan) (is_some c.advance-next.new.loan) c.advance-next.result c.advance-next.ensures.loan
+          (c.advance-next.ensures.stands (task_path j.card.task) (goal_tree j.goal.value) taken));
+      kind = c.requires.job.kind;
+      counts = counts_moved c.advance-next.result c.settle_in.new.place c.advance-next.new.loan c.settle_in.ensures
+          (counted_after (task_path j.card.task) (goal_tree j.goal.value) (is_some j.loan) c.replace-state.result c.advance-next.result j.loan c.advance-next.new.loan
+          (told_now (f.holds c.args.fetcher.now) (f.fault_count c.args.fetcher.now) (f.fetches c.args.fetcher.now) (f.watch c.args.fetcher.now))
+          (told_now (f.holds c.advance-next.new.fetcher) (f.fault_count c.advance-next.new.fetcher) (f.fetches c.advance-next.new.fetcher) (f.watch c.advance-next.new.fetcher))
+          taken (λ spot. (c.advance-next.ensures.on_part spot).0) (λ spot. (c.advance-next.ensures.on_loan spot).1) (λ spot. (c.advance-next.ensures.on_store spot).2));
+    }
+
+pub returns-clause-on_part : goal.returns-clause-on_part
+returns-clause-on_part g c = λ spot.
+    let all = c.advance-next.ensures.on_part (ap state_spot c.replace-state.ensures.value ∙ spot) in (
+      calls_moved c.args.self.now.state c.replace-state.result c.advance-next.result c.settle_in.new.place c.replace-state.ensures.value c.settle_in.ensures all.0,
+      all.1,
+      all.2,
+    )
