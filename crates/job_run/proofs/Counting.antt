@@ -15,7 +15,7 @@ use Rattle.job_run.specs.Failures.{IsDiskCall, note_of}
 use Rattle.job_run.specs.Jobs.{Counts, IsCounted, LoanCounts}
 use Rattle.job_run.specs.States.{failure_of, is_disk, region_of}
 use Rattle.job_run.specs.declared.states.Doing.{Doing}
-use Rattle.job_run.specs.Steps.{CallsLoan, CallsPart, DoingAsks, Spot, Stands, StateAsks, Told, loan_call, part_call, state_spot, store_call}
+use Rattle.job_run.specs.Steps.{KeepsLoan, LoanStays, CallsLoan, CallsPart, DoingAsks, Spot, Stands, StateAsks, Told, loan_call, part_call, state_spot, store_call}
 use Rattle.job_run.specs.declared.states.Doing.TheVariants as doing
 use Rattle.job_run.specs.declared.states.Filling.TheVariants as filling
 use Rattle.job_run.specs.declared.states.State.{State}
@@ -107,3 +107,35 @@ calls_moved {R} {g} old taken new placed was is calls =
 pub stands_lent : {R : Type 0} {g : Ghosts R} (place : List (List ℕ)) (goal : Option (List Flat)) (before after : Bool) (s : State R g) → after ≡ before →
     Stands place goal before s → Stands place goal after s
 stands_lent {R} {g} place goal before after s same stands = subst (λ (b : Bool). Stands place goal b s) (sym same) stands
+
+-- ---- the part that is lent
+
+pub stays_same : {R : Type 0} (g : Ghosts R) (loan : Option (ReadLoan R)) → LoanStays g loan loan
+stays_same g None = tt
+stays_same g (Some loan) = record { tree = refl; place = refl; part = refl; rough = refl }
+
+pub stays_on : {R : Type 0} (g : Ghosts R) (first second third : Option (ReadLoan R)) → LoanStays g first second → LoanStays g second third → LoanStays g first third
+stays_on g None None None one two = tt
+stays_on g None None (Some third) one two = two
+stays_on g None (Some second) third one two = elim one as (λ _. LoanStays g None third) [ ]
+stays_on g (Some first) None third one two = elim one as (λ _. LoanStays g (Some first) third) [ ]
+stays_on g (Some first) (Some second) None one two = two
+stays_on g (Some first) (Some second) (Some third) one two = record {
+  tree = two.tree ∙ one.tree;
+  place = two.place ∙ one.place;
+  part = two.part ∙ one.part;
+  rough = two.rough ∙ one.rough;
+}
+
+-- a call on it leaves it
+stays_called : {R : Type 0} (g : Ghosts R) (old new : Option (ReadLoan R)) (failure : Option Outcome) → CallsLoan g old new failure → LoanStays g old new
+stays_called g None new failure calls = elim calls as (λ _. LoanStays g None new) [ ]
+stays_called g (Some old) None failure calls = calls
+stays_called g (Some old) (Some new) failure calls = record { tree = calls.tree; place = calls.place; part = calls.part; rough = calls.rough }
+
+-- so each step leaves it
+pub stays_after : {R : Type 0} (g : Ghosts R) (spot : Spot) (old new : Option (ReadLoan R)) (failure : Option Outcome) → (spot ≡ part_call → new ≡ old) →
+    (spot ≡ loan_call → CallsLoan g old new failure) → (spot ≡ store_call → new ≡ old) → LoanStays g old new
+stays_after {R} g part_call old new failure on_part on_loan on_store = subst (λ (l : Option (ReadLoan R)). LoanStays g old l) (sym (on_part refl)) (stays_same g old)
+stays_after {R} g loan_call old new failure on_part on_loan on_store = stays_called g old new failure (on_loan refl)
+stays_after {R} g store_call old new failure on_part on_loan on_store = subst (λ (l : Option (ReadLoan R)). LoanStays g old l) (sym (on_store refl)) (stays_same g old)

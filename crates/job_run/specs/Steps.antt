@@ -114,3 +114,16 @@ StateAsks (state.Clearing region order) old new failure = ⊥
 StateAsks (state.Making making) old new failure = DoingAsks making.doing old new failure
 StateAsks (state.Ended left ended) old new failure = ⊥
 StateAsks state.Moving old new failure = ⊥
+
+-- a part that is lent stays as it is, but for its counts
+pub record KeepsLoan {R : Type 0} (g : Ghosts R) (old new : ReadLoan R) : Type 0 where
+  pub tree : loan_tree new ≡ loan_tree old
+  pub place : g.place (loan_region new) ≡ g.place (loan_region old)
+  pub part : g.part (loan_region new) ≡ g.part (loan_region old)
+  pub rough : g.rough (loan_region new) ≡ g.rough (loan_region old)
+
+abbrev pub LoanStays : {R : Type 0} → Ghosts R → Option (ReadLoan R) → Option (ReadLoan R) → Type 0
+LoanStays g None None = Unit {0}
+LoanStays g None (Some new) = ⊥
+LoanStays g (Some old) None = ⊥
+LoanStays g (Some old) (Some new) = KeepsLoan g old new

@@ -9,7 +9,7 @@ ghost use Rattle.job_run.specs.Jobs.{CallsRegion, IsJob, JobAsks, job_next, call
 ghost use Rattle.job_run.specs.Done.{counts_fault, ends_task, is_make, leaves_part, task_path};
 ghost use Rattle.job_run.specs.States.{HasEnded, failing, region_of};
 ghost use Rattle.job_run.specs.Orders.{IsLeft, IsMakeable, is_right};
-ghost use Rattle.job_run.specs.Steps.{CallsLoan, CallsPart, StateAsks, doing_spot, source_spot, loan_call, part_call, store_call, told_now};
+ghost use Rattle.job_run.specs.Steps.{CallsLoan, CallsPart, LoanStays, StateAsks, doing_spot, source_spot, loan_call, part_call, store_call, told_now};
 
 use crate::states::{Doing, Filling, Making, Order, Source, State};
 use crate::stepping::advance;
@@ -228,6 +228,13 @@ impl<R: Region> Job<R> {
         next_of(&self.state)
     }
 
+    /// Whether the job has ended. Takes no memory.
+    pub fn has_ended(&self) -> bool
+        ensures { result ≡ is_over self.now }
+    {
+        matches!(self.state, State::Ended(..))
+    }
+
     /// Makes the one device call that `next` names.
     pub fn step<F: Fetcher>(&mut self, fetcher: &mut F) -> Stepped
         requires job { IsJob self.old }
@@ -237,6 +244,7 @@ impl<R: Region> Job<R> {
         ensures goal { job_goal self.new ≡ job_goal self.old }
         ensures result { result ≡ (if is_over self.new then Stepped.Ended else Stepped.Going) }
         ensures less { calls_left self.new < calls_left self.old }
+        ensures loan { LoanStays ⟦<R as Region>⟧ (job_loan self.old) (job_loan self.new) }
         ensures on_part { job_spot self.old ≡ part_call → ForSome (job_region self.old) (λ before. CallsRegion before self.new) × (job_loan self.new ≡ job_loan self.old) × (fetcher.new ≡ fetcher.old) }
         ensures on_loan { job_spot self.old ≡ loan_call → (job_region self.new ≡ job_region self.old) × CallsLoan ⟦<R as Region>⟧ (job_loan self.old) (job_loan self.new) (job_failure self.new) × (fetcher.new ≡ fetcher.old) }
         ensures on_store { job_spot self.old ≡ store_call → (job_region self.new ≡ job_region self.old) × (job_loan self.new ≡ job_loan self.old) × JobAsks self.old (told_now (F.holds fetcher.old) (F.fault_count fetcher.old) (F.fetches fetcher.old) (F.watch fetcher.old)) (told_now (F.holds fetcher.new) (F.fault_count fetcher.new) (F.fetches fetcher.new) (F.watch fetcher.new)) (job_failure self.new) }
@@ -293,4 +301,18 @@ impl<R: Region> Job<R> {
         } = self;
         (part_of(state), loan)
     }
+}
+
+/// Makes all steps of a job that are left, and finishes it.
+pub fn work_off<R: Region, F: Fetcher>(mut job: Job<R>, fetcher: &mut F) -> Done<R>
+    requires { IsJob job }
+    ensures card { result.card ≡ job_card job }
+    ensures ended { HasEnded (task_path result.card.task) (job_goal job) result.part result.outcome }
+    ensures loan { LoanStays ⟦<R as Region>⟧ (job_loan job) result.loan }
+    ensures holds { F.holds fetcher.new ≡ F.holds fetcher.old }
+{
+    'steps: while !job.has_ended() {
+        job.step(fetcher);
+    }
+    job.finish()
 }

@@ -15,4 +15,4 @@ mod reading;
 mod states;
 mod stepping;
 
-pub use job::{Done, Job, Next, Stepped};
+pub use job::{Done, Job, Next, Stepped, work_off};

@@ -2,8 +2,9 @@ use Rattle.std.proofs.Common.{◌≡◌, refl, sym, ap, ◌∙◌}
 use Rattle.std.specs.Option.{is_some}
 use Rattle.job_run.specs.Done.{task_path}
 use Rattle.job_run.specs.Jobs.{goal_tree}
+use Rattle.job_run.specs.States.{failure_of}
 use Rattle.job_run.specs.Steps.{state_spot, told_now}
-use Rattle.job_run.proofs.Counting.{calls_moved, counted_after, counts_moved, stands_lent, stands_moved}
+use Rattle.job_run.proofs.Counting.{calls_moved, counted_after, counts_moved, stands_lent, stands_moved, stays_after}
 use Rattle.job_run.proofs.job.Job.step.Goals as goal
 
 pub advance-next-requires-clause-stands : goal.advance-next-requires-clause-stands
@@ -63,3 +64,13 @@ returns-clause-on_part g c = λ spot.
       all.1,
       all.2,
     )
+
+pub returns-then-is_over-clause-loan : goal.returns-then-is_over-clause-loan
+returns-then-is_over-clause-loan g c =
+    stays_after g.R.Region (state_spot c.replace-state.result) c.args.self.now.loan c.advance-next.new.loan (failure_of c.advance-next.result)
+    (λ spot. (c.advance-next.ensures.on_part spot).1) (λ spot. (c.advance-next.ensures.on_loan spot).1) (λ spot. (c.advance-next.ensures.on_store spot).1)
+
+pub returns-clause-loan : goal.returns-clause-loan
+returns-clause-loan g c =
+    stays_after g.R.Region (state_spot c.replace-state.result) c.args.self.now.loan c.advance-next.new.loan (failure_of c.advance-next.result)
+    (λ spot. (c.advance-next.ensures.on_part spot).1) (λ spot. (c.advance-next.ensures.on_loan spot).1) (λ spot. (c.advance-next.ensures.on_store spot).1)
