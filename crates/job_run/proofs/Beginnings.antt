@@ -1,15 +1,15 @@
 -- How a make goes on behind a node.
-use Rattle.std.proofs.Common.{◌≡◌, ℕ, Bool, true, List, [], ◌∷◌, ◌++◌, Option, sym, ap, ◌∙◌, subst, append_assoc}
+use Rattle.std.proofs.Common.{◌≡◌, ℕ, Bool, true, List, [], ◌∷◌, ◌++◌, Option, sym, ◌∙◌, subst, append_assoc}
 use Rattle.std.specs.List.{list_all}
 use Rattle.mat_tree.specs.Parts.{Part}
-use Rattle.mat_tree.specs.Trees.{ascends, is_placed, is_small}
+use Rattle.mat_tree.specs.Trees.{ascends}
 use Rattle.mat_tree.specs.declared.flat.Flat.{Flat}
 use Rattle.write_plan.specs.declared.act.Act.{Act}
 use Rattle.write_plan.specs.declared.method.Method.{Method}
 use Rattle.job_run.specs.Begun.{Begins}
 use Rattle.job_run.specs.Growing.{HasNodes}
 use Rattle.job_run.specs.Orders.{IsLeft, IsMakeable, Remains, is_right}
-use Rattle.job_run.specs.Stages.{IsAt, IsBehind, IsMaking, filing_node}
+use Rattle.job_run.specs.Stages.{IsBehind, IsMaking, filing_node}
 use Rattle.job_run.specs.declared.states.Doing.{Doing}
 use Rattle.job_run.specs.declared.states.Doing.TheVariants as doing
 use Rattle.job_run.specs.declared.states.Order.{Order}

@@ -1,5 +1,5 @@
 -- One call on the disk, by what it answered.
-use Rattle.std.proofs.Common.{◌≡◌, ◌==◌, ℕ, Bool, true, false, if◌then◌else◌, List, Option, Some, None, refl, sym, ap, ◌∙◌, subst}
+use Rattle.std.proofs.Common.{◌≡◌, ◌==◌, ℕ, Bool, false, if◌then◌else◌, List, Option, refl, sym, subst}
 use Rattle.std.specs.Option.{option_map}
 use Rattle.mat_io.specs.Answers.{did_failed}
 use Rattle.mat_io.specs.Causes.{HasCause}

@@ -1,7 +1,6 @@
 -- What a step leaves of a job.
 use Rattle.std.proofs.Common.{◌≡◌, ◌≤◌, ◌⊎◌, inl, inr, ℕ, Bool, true, false, List, Option, Some, None, refl, sym, ap, ◌∙◌, subst, arith}
-use Rattle.std.specs.Option.{ForSome, is_some}
-use Rattle.mat_model.specs.declared.answers.Device.{Device}
+use Rattle.std.specs.Option.{ForSome}
 use Rattle.mat_model.specs.declared.answers.Device.TheVariants as device
 use Rattle.mat_model.specs.declared.answers.FaultNote.{FaultNote}
 use Rattle.mat_model.specs.declared.entries.Outcome.{Outcome}
@@ -9,13 +8,12 @@ use Rattle.mat_model.specs.declared.entries.Outcome.TheVariants as outcome
 use Rattle.mat_tree.specs.declared.flat.Flat.{Flat}
 use Rattle.region_port.specs.States.{loan_region, state_region}
 use Rattle.region_port.specs.declared.port.Region.{Ghosts}
-use Rattle.region_port.specs.declared.states.Part.{Part}
 use Rattle.region_port.specs.declared.states.ReadLoan.{ReadLoan}
-use Rattle.job_run.specs.Failures.{IsDiskCall, note_of}
-use Rattle.job_run.specs.Jobs.{Counts, IsCounted, LoanCounts}
+use Rattle.job_run.specs.Failures.{note_of}
+use Rattle.job_run.specs.Jobs.{Counts, LoanCounts}
 use Rattle.job_run.specs.States.{failure_of, is_disk, region_of}
 use Rattle.job_run.specs.declared.states.Doing.{Doing}
-use Rattle.job_run.specs.Steps.{KeepsLoan, LoanStays, CallsLoan, CallsPart, DoingAsks, Spot, Stands, StateAsks, Told, loan_call, part_call, state_spot, store_call}
+use Rattle.job_run.specs.Steps.{LoanStays, CallsLoan, CallsPart, DoingAsks, Spot, Stands, StateAsks, Told, loan_call, part_call, state_spot, store_call}
 use Rattle.job_run.specs.declared.states.Doing.TheVariants as doing
 use Rattle.job_run.specs.declared.states.Filling.TheVariants as filling
 use Rattle.job_run.specs.declared.states.State.{State}

@@ -1,5 +1,5 @@
 -- Digests that are the same.
-use Rattle.std.proofs.Common.{◌≡◌, ◌==◌, ℕ, true, List, length, refl, ap, ap₂, sym, ◌∙◌, arith}
+use Rattle.std.proofs.Common.{◌≡◌, ◌==◌, ℕ, true, List, length, refl, ap₂, arith}
 use Rattle.std.proofs.lemmas.Bool.{and_from, and_parts, eqb-true}
 use Rattle.std.proofs.lemmas.Bool.Decides.{nat_tests}
 use Rattle.mat_digest.specs.Digests.{digest_of}

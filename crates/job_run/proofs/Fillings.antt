@@ -1,22 +1,20 @@
 -- How the bytes of a file first come, by where they come from.
-use Rattle.std.proofs.Common.{◌≡◌, ◌≤◌, ℕ, Bool, true, false, cond, if◌then◌else◌, List, [], ◌∷◌, ◌++◌, length, take, Option, Some, None, refl, sym, ap, ◌∙◌, subst, arith}
+use Rattle.std.proofs.Common.{◌≡◌, ℕ, Bool, true, false, if◌then◌else◌, List, [], Option, refl, sym, ap, ◌∙◌, subst, arith}
 use Rattle.std.specs.Option.{ForSome}
 use Rattle.mat_digest.specs.Digests.{digest_of}
 use Rattle.mat_digest.specs.declared.digest.Digest.{Digest}
 use Rattle.mat_tree.specs.Parts.{Part}
-use Rattle.mat_tree.specs.Trees.{same_digest}
 use Rattle.mat_tree.specs.declared.flat.Flat.{Flat}
-use Rattle.write_plan.specs.Plans.{is_empty, method_supply, origin_supply, supply_of}
+use Rattle.write_plan.specs.Plans.{is_empty, method_supply, supply_of}
 use Rattle.write_plan.specs.declared.act.Supply.{Supply}
 use Rattle.write_plan.specs.declared.act.Supply.TheVariants as supply
 use Rattle.write_plan.specs.declared.method.Method.{Method}
 use Rattle.write_plan.specs.declared.method.Method.TheVariants as method
-use Rattle.write_plan.specs.declared.method.Origin.{Origin}
 use Rattle.write_plan.specs.declared.method.Origin.TheVariants as origin
 use Rattle.job_run.specs.Begun.{BeginsFrom, is_known, supply_from}
 use Rattle.job_run.specs.Growing.{HasElsewhere}
 use Rattle.job_run.specs.Orders.{held_bytes, is_right_from, own_supply}
-use Rattle.job_run.specs.Stages.{IsFilling, filing_node, may_read}
+use Rattle.job_run.specs.Stages.{IsFilling, may_read}
 use Rattle.job_run.specs.declared.states.Filing.{Filing}
 use Rattle.job_run.specs.declared.states.Filling.{Filling}
 use Rattle.job_run.specs.declared.states.Filling.TheVariants as filling
@@ -29,7 +27,7 @@ use Rattle.job_run.proofs.DigestLemmas.{same_digest-eq}
 pub record Serves (way : Method) (lent : Bool) (digest : Digest) (from : Supply) : Type 0 where
   pub right : is_known from ≡ true → digest_of (held_bytes way) ≡ digest
   pub some : is_known from ≡ false → is_empty digest ≡ false
-  pub source : (read : Source) → supply_from read ≡ from → may_read lent read ≡ true
+  pub source : (read : Source) → supply_from read ≡ from → may_read way lent read ≡ true
 
 -- what is read isn't known
 unknown : (read : Source) → is_known (supply_from read) ≡ false
@@ -53,8 +51,11 @@ filling_from way lent filing nodes part from (filling.Due read reading) serves h
 filling_from way lent filing nodes part from (filling.Got read at piece more) serves has begins = elim begins as (λ _. IsFilling way lent filing nodes part (filling.Got read at piece more)) [ ]
 
 -- a row's own bytes are never lent
-own_read : (way : Method) (lent : Bool) (rel : List (List ℕ)) (read : Source) → supply_from read ≡ method_supply way false rel → may_read lent read ≡ true
-own_read way lent rel source.Store is = refl
+own_read : (way : Method) (lent : Bool) (rel : List (List ℕ)) (read : Source) → supply_from read ≡ method_supply way false rel → may_read way lent read ≡ true
+own_read (method.Write bytes) lent rel source.Store is = cc
+own_read method.Fetch lent rel source.Store is = refl
+own_read (method.Copy from rest stamp (origin.Inline bytes)) lent rel source.Store is = cc
+own_read (method.Copy from rest stamp origin.Store) lent rel source.Store is = refl
 own_read (method.Write bytes) lent rel (source.Loan at) is = cc
 own_read method.Fetch lent rel (source.Loan at) is = cc
 own_read (method.Copy from rest stamp (origin.Inline bytes)) lent rel (source.Loan at) is = cc
@@ -90,13 +91,15 @@ pub plan_serves : (way : Method) (lent : Bool) (rel : List (List ℕ)) (digest :
     Serves way lent digest (supply_of way lent rel digest)
 plan_serves way lent rel digest right = by (is_empty digest) refl
   where
-    none_read : (read : Source) → supply_from read ≡ supply.Empty → may_read lent read ≡ true
-    none_read source.Store is = refl
+    none_read : (read : Source) → supply_from read ≡ supply.Empty → may_read way lent read ≡ true
+    none_read source.Store is = cc
     none_read (source.Loan at) is = cc
 
-    some_read : (way : Method) (lent : Bool) (read : Source) → supply_from read ≡ method_supply way lent rel → may_read lent read ≡ true
+    some_read : (way : Method) (lent : Bool) (read : Source) → supply_from read ≡ method_supply way lent rel → may_read way lent read ≡ true
     some_read way false read is = own_read way false rel read is
-    some_read way true source.Store is = refl
+    some_read (method.Write bytes) true source.Store is = cc
+    some_read method.Fetch true source.Store is = refl
+    some_read (method.Copy from rest stamp origin) true source.Store is = cc
     some_read way true (source.Loan at) is = refl
 
     some_right : (way : Method) (lent : Bool) → is_right_from (own_supply way) (held_bytes way) digest ≡ true → is_known (method_supply way lent rel) ≡ true →

@@ -1,5 +1,5 @@
 -- What pieces that are read lead to.
-use Rattle.std.proofs.Common.{◌≡◌, ◌≤◌, ◌<◌, ◌+◌, ◌-◌, ◌*◌, ◌==◌, ◌&&◌, ◌||◌, nat_le, ℕ, Bool, true, false, not, if◌then◌else◌, List, [], ◌∷◌, ◌++◌, length, Option, Some, None, refl, sym, ap, ◌∙◌, subst, arith}
+use Rattle.std.proofs.Common.{◌≡◌, ◌≤◌, ◌<◌, ◌+◌, ◌-◌, ◌==◌, ◌&&◌, ◌||◌, nat_le, ℕ, Bool, true, false, not, if◌then◌else◌, List, [], ◌∷◌, ◌++◌, length, Option, Some, None, refl, sym, ap, ◌∙◌, subst, arith}
 use Rattle.std.proofs.lemmas.Bool.{eqb-true}
 use Rattle.std.proofs.lemmas.Bool.Decides.{nat_tests}
 use Rattle.std.proofs.lemmas.List.{length-append}
@@ -20,7 +20,7 @@ use Rattle.write_plan.specs.declared.method.Origin.TheVariants as origin
 use Rattle.job_run.specs.declared.states.Source.TheVariants as source
 use Rattle.job_run.specs.Begun.{BeginsFrom}
 use Rattle.job_run.proofs.Fillings.{filling_from, own_serves}
-use Rattle.job_run.specs.Orders.{IsLeft, acts_cost, file_cost, is_right, own_supply, supply_cost}
+use Rattle.job_run.specs.Orders.{acts_cost, file_cost, is_right, own_supply, supply_cost}
 use Rattle.job_run.specs.Pieces.{asked_for, is_last, most_bytes}
 use Rattle.job_run.specs.Readings.{HasGiven, Takes, completes, goes_on, judged}
 use Rattle.job_run.specs.Stages.{IsMaking, filing_node, filling_cost, making_cost}
@@ -251,9 +251,13 @@ store_got wanted reading held before after given piece f has judges gives =
     (by (goes_on wanted given piece || completes wanted given piece) refl)
   where
     same : (d : Digest) (others : List ℕ) (c : Bool) → Some (outcome.Corrupt wanted d) ≡ (if c then None else Some (outcome.Corrupt wanted (digest_of (others ++ piece)))) →
-        d ≡ digest_of (others ++ piece)
+        (d ≡ digest_of (others ++ piece)) × (c ≡ false)
     same d others true is = cc
-    same d others false is = cc
+    same d others false is = (cc, refl)
+
+    neither : (b c : Bool) → b || c ≡ false → b ≡ false
+    neither true c is = cc
+    neither false c is = refl
 
     by : (b : Bool) → (goes_on wanted given piece || completes wanted given piece) ≡ b →
         IsStoreFailure wanted reading held before after (if b then None else Some (outcome.Corrupt wanted (digest_of (given ++ piece))))
@@ -262,11 +266,10 @@ store_got wanted reading held before after given piece f has judges gives =
       refl,
       λ others so.
           let first : f ≡ Some (outcome.Corrupt wanted (digest_of (given ++ piece))) =
-          judges given has ∙ ap (λ b. if b then None else Some (outcome.Corrupt wanted (digest_of (given ++ piece)))) is in (
-            piece,
-            same (digest_of (given ++ piece)) others (goes_on wanted others piece || completes wanted others piece) (sym first ∙ judges others so),
-            record { told = gives },
-          ),
+          judges given has ∙ ap (λ b. if b then None else Some (outcome.Corrupt wanted (digest_of (given ++ piece)))) is in
+          let both : (digest_of (given ++ piece) ≡ digest_of (others ++ piece)) × ((goes_on wanted others piece || completes wanted others piece) ≡ false) =
+          same (digest_of (given ++ piece)) others (goes_on wanted others piece || completes wanted others piece) (sym first ∙ judges others so) in
+          (piece, both.0, record { wrong = neither (goes_on wanted others piece) (completes wanted others piece) both.1; told = gives }),
     )
 
 -- ---- where a file goes on

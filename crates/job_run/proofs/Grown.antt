@@ -10,7 +10,7 @@ use Rattle.mat_digest.specs.declared.digest.Digest.{Digest}
 use Rattle.mat_path.specs.Names.{path_cmp, same_names}
 use Rattle.mat_path.proofs.PathLemmas.{path_cmp-refl}
 use Rattle.mat_path.proofs.SameNames.{same_names-eq, same_names-refl}
-use Rattle.mat_tree.specs.Parts.{HasTree, Node, Part, bare, declared_by, file, with_node}
+use Rattle.mat_tree.specs.Parts.{HasTree, Node, Part, declared_by, file, with_node}
 use Rattle.mat_tree.specs.Trees.{ascends, is_after, is_at, what_at, what_of}
 use Rattle.mat_tree.specs.declared.flat.Flat.{Flat}
 use Rattle.mat_tree.specs.declared.flat.What.{What}

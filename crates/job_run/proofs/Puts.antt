@@ -1,5 +1,5 @@
 -- What puts lead to.
-use Rattle.std.proofs.Common.{◌≡◌, ◌≤◌, ◌<◌, ◌+◌, ◌-◌, ◌*◌, ◌==◌, ℕ, Bool, true, false, List, [], ◌∷◌, ◌++◌, length, take, drop, Option, Some, None, refl, sym, ap, ◌∙◌, subst, arith, append_assoc, min}
+use Rattle.std.proofs.Common.{◌≡◌, ◌≤◌, ◌<◌, ◌+◌, ◌-◌, ℕ, true, List, [], ◌∷◌, ◌++◌, length, take, drop, Option, Some, None, refl, sym, ap, ◌∙◌, subst, arith, append_assoc, min}
 use Rattle.std.proofs.Math.Seq.{take-append_seam}
 use Rattle.std.proofs.lemmas.List.{length-append, length-drop, length-take, length-take-le, take-append-drop, take_all}
 use Rattle.std.specs.Option.{ForSome, option_map}
@@ -7,24 +7,21 @@ use Rattle.mat_digest.specs.Digests.{digest_of}
 use Rattle.mat_digest.specs.declared.digest.Digest.{Digest}
 use Rattle.mat_model.specs.declared.entries.Outcome.{Outcome}
 use Rattle.mat_model.specs.declared.entries.Outcome.TheVariants as outcome
-use Rattle.mat_model.specs.declared.answers.Device.TheVariants as device
 use Rattle.mat_model.specs.declared.answers.FaultNote.{FaultNote}
 use Rattle.mat_path.specs.Names.{is_path}
-use Rattle.mat_tree.specs.Parts.{Node, Part, declared_by, file, folder, link, with_node}
+use Rattle.mat_tree.specs.Parts.{Part, folder, link, with_node}
 use Rattle.mat_tree.specs.Trees.{is_placed}
 use Rattle.mat_tree.specs.declared.flat.Flat.{Flat}
 use Rattle.job_run.specs.Failures.{Changes, IsDiskFailure, IsDiskWhy}
-use Rattle.job_run.specs.Growing.{Grows, HasNodes, dir_node, file_node, link_node, with_piece}
+use Rattle.job_run.specs.Growing.{Grows, HasNodes, dir_node, link_node, with_piece}
 use Rattle.job_run.specs.Orders.{IsLeft, IsMakeable, file_cost, held_bytes}
 use Rattle.job_run.specs.Pieces.{most_bytes}
 use Rattle.region_port.specs.declared.port.Region.{Ghosts}
 use Rattle.job_run.specs.Steps.{CallsPart}
 use Rattle.job_run.specs.declared.states.State.{State}
 use Rattle.job_run.specs.Stages.{IsBehind, IsMaking, filing_node, filling_cost}
-use Rattle.job_run.specs.declared.states.Doing.{Doing}
 use Rattle.job_run.specs.declared.states.Doing.TheVariants as doing
 use Rattle.job_run.specs.declared.states.Filing.{Filing}
-use Rattle.job_run.specs.declared.states.Filling.{Filling}
 use Rattle.job_run.specs.declared.states.Filling.TheVariants as filling
 use Rattle.job_run.specs.declared.reading.Reading.{Reading}
 use Rattle.job_run.specs.declared.states.Order.{Order}
@@ -33,7 +30,7 @@ use Rattle.std.specs.declared.vec.Vec.{Vec}
 use Rattle.std.specs.declared.alloc.Global.{Global}
 use Rattle.job_run.proofs.DigestLemmas.{digest_of-size}
 use Rattle.job_run.proofs.Beginnings.{node_ascends, node_passes}
-use Rattle.job_run.proofs.Grown.{file_placed, grown, grows_is_file, node_placed}
+use Rattle.job_run.proofs.Grown.{file_placed, grown, node_placed}
 
 -- the failure of a call on the disk is one of the disk
 pub disk_why : (before after : ℕ) (failure : Option Outcome) → IsDiskFailure before after failure → IsDiskWhy failure

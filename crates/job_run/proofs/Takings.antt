@@ -5,7 +5,6 @@ use Rattle.mat_digest.specs.declared.digest.Digest.{Digest}
 use Rattle.mat_tree.specs.Trees.{same_digest}
 use Rattle.job_run.specs.Pieces.{is_last, most_bytes}
 use Rattle.job_run.specs.Readings.{Takes, completes, goes_on}
-use Rattle.job_run.specs.declared.reading.Taken.{Taken}
 use Rattle.job_run.specs.declared.reading.Taken.TheVariants as taken
 
 -- behind the last piece nothing is due

@@ -1,10 +1,9 @@
 -- How an act begins, and how the bytes of a file first come.
-use Rattle.std.specs.Prelude.{◌≡◌, Bool, true, false, List, [], ◌∷◌, ◌++◌, Option}
+use Rattle.std.specs.Prelude.{◌≡◌, Bool, true, false, List, [], ◌∷◌, ◌++◌}
 use Rattle.mat_tree.specs.declared.flat.Flat.{Flat}
 use Rattle.write_plan.specs.Plans.{supply_of}
 use Rattle.write_plan.specs.declared.act.Supply.{Supply}
 use Rattle.write_plan.specs.declared.act.Supply.TheVariants as supply
-use Rattle.write_plan.specs.declared.method.Method.{Method}
 use Rattle.job_run.specs.Growing.{dir_node, link_node}
 use Rattle.job_run.specs.Orders.{IsLeft}
 use Rattle.job_run.specs.Readings.{HasGiven}

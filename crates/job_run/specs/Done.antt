@@ -1,5 +1,5 @@
 -- What a job that has ended keeps.
-use Rattle.std.specs.Prelude.{◌≡◌, ◌&&◌, ◌||◌, nat_le, ℕ, Bool, true, false, not, List, Option, Some, None}
+use Rattle.std.specs.Prelude.{◌||◌, nat_le, ℕ, Bool, true, false, not, List, Option, Some, None}
 use Rattle.std.specs.Option.{is_some}
 use Rattle.mat_model.specs.declared.entries.Outcome.{Outcome}
 use Rattle.mat_model.specs.declared.entries.Outcome.TheVariants as outcome

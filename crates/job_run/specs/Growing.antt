@@ -1,5 +1,5 @@
 -- A part that is given a tree node by node, and a file of it piece by piece.
-use Rattle.std.specs.Prelude.{◌≡◌, ◌==◌, ℕ, Bool, false, if◌then◌else◌, List, ◌++◌, length, Option, Some}
+use Rattle.std.specs.Prelude.{◌≡◌, ◌==◌, ℕ, Bool, false, if◌then◌else◌, List, length, Option, Some}
 use Rattle.std.specs.Option.{ForSome, option_map}
 use Rattle.mat_path.specs.Names.{same_names}
 use Rattle.mat_tree.specs.Parts.{HasTree, Part, declared_by, file, with_node}

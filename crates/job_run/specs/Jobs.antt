@@ -1,5 +1,5 @@
 -- What a job keeps between its steps, and what it leaves when it has ended.
-use Rattle.std.specs.Prelude.{◌≡◌, ◌≤◌, ◌⊎◌, ℕ, Bool, true, false, List, Option, Some, None}
+use Rattle.std.specs.Prelude.{◌≡◌, ◌≤◌, ◌⊎◌, ℕ, Bool, true, List, Option, Some, None}
 use Rattle.std.specs.Option.{is_some}
 use Rattle.mat_model.specs.declared.entries.Card.{Card}
 use Rattle.mat_model.specs.declared.entries.Outcome.{Outcome}
@@ -7,10 +7,9 @@ use Rattle.mat_model.specs.declared.entries.Outcome.TheVariants as outcome
 use Rattle.mat_tree.specs.declared.flat.Flat.{Flat}
 use Rattle.region_port.specs.States.{loan_region, state_region}
 use Rattle.region_port.specs.declared.port.Region.{Ghosts}
-use Rattle.region_port.specs.declared.states.Part.{Part}
 use Rattle.region_port.specs.declared.states.ReadLoan.{ReadLoan}
 use Rattle.job_run.specs.Done.{is_make, task_path}
-use Rattle.job_run.specs.States.{HasEnded, failure_of, has_ended, is_disk, region_of, state_cost}
+use Rattle.job_run.specs.States.{failure_of, has_ended, is_disk, region_of, state_cost}
 use Rattle.job_run.specs.Steps.{CallsPart, Spot, StateAsks, Told, Stands, doing_spot, loan_call, part_call, state_spot, store_call}
 use Rattle.job_run.specs.declared.job.Goal.{Goal}
 use Rattle.job_run.specs.declared.job.Goal.TheVariants as goal

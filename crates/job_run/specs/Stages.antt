@@ -9,7 +9,7 @@ use Rattle.write_plan.specs.declared.act.Supply.{Supply}
 use Rattle.write_plan.specs.declared.act.Supply.TheVariants as supply
 use Rattle.write_plan.specs.declared.method.Method.{Method}
 use Rattle.job_run.specs.Growing.{Grows, HasNodes, dir_node, file_node, link_node}
-use Rattle.job_run.specs.Orders.{IsLeft, IsMakeable, acts_cost, again_cost, file_cost, held_bytes}
+use Rattle.job_run.specs.Orders.{IsLeft, IsMakeable, acts_cost, again_cost, file_cost, held_bytes, own_supply}
 use Rattle.job_run.specs.Pieces.{most_bytes}
 use Rattle.job_run.specs.Readings.{HasGiven}
 use Rattle.job_run.specs.declared.reading.Reading.{Reading}
@@ -26,10 +26,17 @@ use Rattle.job_run.specs.declared.states.Source.TheVariants as source
 abbrev pub filing_node : Filing → Flat
 filing_node filing = file_node filing.rel filing.digest filing.exec
 
--- whether bytes may be read somewhere: in a lent part only where one is lent
-abbrev pub may_read : Bool → Source → Bool
-may_read lent source.Store = true
-may_read lent (source.Loan rel) = lent
+-- whether bytes are to be read in the store
+abbrev pub is_stored : Supply → Bool
+is_stored supply.Empty = false
+is_stored supply.Held = false
+is_stored supply.Store = true
+is_stored (supply.Loan rel) = false
+
+-- whether bytes may be read somewhere: in the store only where the row holds none, in a lent part only where one is lent
+abbrev pub may_read : Method → Bool → Source → Bool
+may_read way lent source.Store = is_stored (own_supply way)
+may_read way lent (source.Loan rel) = lent
 
 -- the bytes of a file are the row's, and those before an offset are put
 pub record IsHeld (way : Method) (filing : Filing) (nodes : List Flat) (part : Option Part) (at : ℕ) : Type 0 where
@@ -38,12 +45,12 @@ pub record IsHeld (way : Method) (filing : Filing) (nodes : List Flat) (part : O
   pub grows : Grows filing.rel filing.exec nodes (take at (held_bytes way)) part
 
 -- the bytes of a file that were given so far are put
-pub record IsDue (lent : Bool) (filing : Filing) (nodes : List Flat) (part : Option Part) (from : Source) (reading : Reading) : Type 0 where
+pub record IsDue (way : Method) (lent : Bool) (filing : Filing) (nodes : List Flat) (part : Option Part) (from : Source) (reading : Reading) : Type 0 where
   pub given : List ℕ
   pub has : HasGiven reading given
   pub within : length given ≤ filing.digest.size
   pub grows : Grows filing.rel filing.exec nodes given part
-  pub source : may_read lent from ≡ true
+  pub source : may_read way lent from ≡ true
   pub some : is_empty filing.digest ≡ false
 
 -- behind a piece more is read, or all bytes have the digest of the file
@@ -52,18 +59,18 @@ Follows wanted given piece None = digest_of (given ++ piece) ≡ wanted
 Follows wanted given piece (Some reading) = HasGiven reading (given ++ piece) × (length piece ≡ most_bytes) × (length (given ++ piece) ≤ wanted.size)
 
 -- a piece was given behind those that are put
-pub record IsGot (lent : Bool) (filing : Filing) (nodes : List Flat) (part : Option Part) (from : Source) (at : ℕ) (piece : List ℕ) (more : Option Reading) : Type 0 where
+pub record IsGot (way : Method) (lent : Bool) (filing : Filing) (nodes : List Flat) (part : Option Part) (from : Source) (at : ℕ) (piece : List ℕ) (more : Option Reading) : Type 0 where
   pub given : List ℕ
   pub offset : at ≡ length given
   pub follows : Follows filing.digest given piece more
   pub grows : Grows filing.rel filing.exec nodes given part
-  pub source : may_read lent from ≡ true
+  pub source : may_read way lent from ≡ true
   pub some : is_empty filing.digest ≡ false
 
 abbrev pub IsFilling : Method → Bool → Filing → List Flat → Option Part → Filling → Type 0
 IsFilling way lent filing nodes part (filling.Held at) = IsHeld way filing nodes part at
-IsFilling way lent filing nodes part (filling.Due from reading) = IsDue lent filing nodes part from reading
-IsFilling way lent filing nodes part (filling.Got from at piece more) = IsGot lent filing nodes part from at piece.items more
+IsFilling way lent filing nodes part (filling.Due from reading) = IsDue way lent filing nodes part from reading
+IsFilling way lent filing nodes part (filling.Got from at piece more) = IsGot way lent filing nodes part from at piece.items more
 
 -- a make is at an act: the part has the nodes in front of it, and the acts behind it are left
 abbrev pub IsAt : List Flat → Option Part → Order → Doing → Type 0

@@ -1,7 +1,7 @@
 -- What the stage of a job keeps, and what is seen of it.
-use Rattle.std.specs.Prelude.{◌≡◌, ◌<◌, ◌+◌, ◌&&◌, ℕ, Bool, true, false, not, List, [], Option, Some, None}
+use Rattle.std.specs.Prelude.{◌≡◌, ◌<◌, ◌+◌, ℕ, Bool, true, false, List, Option, Some, None}
 use Rattle.std.specs.List.{list_any}
-use Rattle.std.specs.Option.{ForSome, is_some}
+use Rattle.std.specs.Option.{ForSome}
 use Rattle.mat_digest.specs.declared.digest.Digest.{Digest}
 use Rattle.mat_model.specs.declared.answers.Device.{Device}
 use Rattle.mat_model.specs.declared.answers.Device.TheVariants as device
@@ -14,11 +14,10 @@ use Rattle.mat_tree.specs.declared.flat.Flat.{Flat}
 use Rattle.mat_tree.specs.declared.flat.What.{What}
 use Rattle.mat_tree.specs.declared.flat.What.TheVariants as what
 use Rattle.region_port.specs.States.{state_region, state_tree}
-use Rattle.region_port.specs.Watches.{Watch}
 use Rattle.region_port.specs.declared.port.Region.{Ghosts}
 use Rattle.region_port.specs.declared.states.Part.{Part}
 use Rattle.region_port.specs.declared.states.Part.TheVariants as part
-use Rattle.job_run.specs.Orders.{IsLeft, IsMakeable, acts_cost}
+use Rattle.job_run.specs.Orders.{acts_cost}
 use Rattle.job_run.specs.Stages.{IsMaking, making_cost}
 use Rattle.job_run.specs.declared.states.Doing.{Doing}
 use Rattle.job_run.specs.declared.states.Order.{Order}

@@ -1,5 +1,5 @@
 -- One call of a job on the store.
-use Rattle.std.specs.Prelude.{◌≡◌, ◌≤◌, ℕ, Bool, List, ◌++◌, Option, Some, None}
+use Rattle.std.specs.Prelude.{◌≡◌, ◌≤◌, ℕ, false, List, ◌++◌, Option, Some, None}
 use Rattle.std.specs.Option.{option_map}
 use Rattle.fetch_port.specs.Fetches.{Blobs, GivesPiece, Lacks, asks_after, held_at}
 use Rattle.fetch_port.specs.Watches.{Watch, FailsSo, after_call}
@@ -11,11 +11,12 @@ use Rattle.mat_model.specs.declared.entries.Outcome.{Outcome}
 use Rattle.mat_model.specs.declared.entries.Outcome.TheVariants as outcome
 use Rattle.job_run.specs.Failures.{is_fault, note_of}
 use Rattle.job_run.specs.Pieces.{asked_for}
-use Rattle.job_run.specs.Readings.{HasGiven}
+use Rattle.job_run.specs.Readings.{HasGiven, goes_on}
 use Rattle.job_run.specs.declared.reading.Reading.{Reading}
 
--- bytes that a store gave behind those given before, by what it holds under the digest where it tells that
+-- bytes that a store gave behind those given before, by what it holds under the digest where it tells that: they aren't what was due
 pub record WereGiven (wanted : Digest) (held : Option Blobs) (given piece : List ℕ) (at : ℕ) : Type 0 where
+  pub wrong : goes_on wanted given piece ≡ false
   pub told : GivesPiece (held_at held wanted) at (asked_for wanted.size at) piece
 
 -- how a call for the next piece of a file may fail: nothing is there; all bytes given have another digest; the store's count rose

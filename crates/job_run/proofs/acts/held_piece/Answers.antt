@@ -1,4 +1,4 @@
-use Rattle.std.proofs.Common.{arith, ◌≡◌, ◌≤◌, length, take, drop, ◌-◌, ◌∙◌, sym}
+use Rattle.std.proofs.Common.{arith, length, drop, ◌-◌, ◌∙◌, sym}
 use Rattle.std.proofs.lemmas.List.{length-drop, length-take, take_all}
 use Rattle.job_run.specs.Pieces.{most_bytes}
 use Rattle.job_run.proofs.acts.held_piece.Goals as goal

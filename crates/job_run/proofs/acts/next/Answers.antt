@@ -1,10 +1,8 @@
-use Rattle.std.proofs.Common.{rules, ◌≡◌, ◌∷◌, List, ◌∙◌, sym, subst, ap}
-use Rattle.mat_tree.specs.declared.flat.Flat.{Flat}
+use Rattle.std.proofs.Common.{◌∷◌, ◌∙◌, subst, ap}
 use Rattle.write_plan.specs.declared.act.Act.{Act}
 use Rattle.write_plan.specs.declared.act.Act.TheVariants as act
 use Rattle.write_plan.specs.declared.act.Supply.{Supply}
 use Rattle.job_run.specs.Begun.{BeginsFrom}
-use Rattle.job_run.specs.Orders.{IsLeft}
 use Rattle.job_run.proofs.Nexts.{told_next}
 use Rattle.job_run.proofs.acts.next.Goals as goal
 

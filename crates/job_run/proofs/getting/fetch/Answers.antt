@@ -1,4 +1,4 @@
-use Rattle.std.proofs.Common.{◌≡◌, ℕ, Bool, List, ◌∙◌, sym, ap, subst}
+use Rattle.std.proofs.Common.{ℕ, Bool, List, sym, subst}
 use Rattle.fetch_port.specs.Fetches.{GivesPiece, held_at}
 use Rattle.fetch_port.specs.Watches.{FailsSo}
 use Rattle.job_run.specs.Pieces.{asked_for}

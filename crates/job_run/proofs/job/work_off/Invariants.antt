@@ -1,4 +1,4 @@
-use Rattle.std.proofs.Common.{◌≡◌, ℕ, Option}
+use Rattle.std.proofs.Common.{◌≡◌, Option}
 use Rattle.fetch_port.specs.Fetches.{Blobs}
 use Rattle.region_port.specs.declared.port.Region.{Ghosts}
 use Rattle.job_run.specs.Jobs.{IsJob, calls_left, job_card, job_goal, job_loan}

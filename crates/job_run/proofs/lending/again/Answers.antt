@@ -1,4 +1,4 @@
-use Rattle.std.proofs.Common.{◌≡◌, ℕ, List, ◌∙◌, ap, subst}
+use Rattle.std.proofs.Common.{◌∙◌, ap, subst}
 use Rattle.write_plan.specs.declared.act.Supply.{Supply}
 use Rattle.job_run.specs.Begun.{BeginsFrom}
 use Rattle.job_run.specs.Orders.{supply_cost}

@@ -1,5 +1,5 @@
-use Rattle.std.proofs.Common.{◌≡◌, ℕ, Bool, List, Option, Some, None, ◌∙◌, sym, ap, subst, arith}
-use Rattle.job_run.specs.Readings.{HasGiven, Takes}
+use Rattle.std.proofs.Common.{ℕ, List, Some, None, subst, arith}
+use Rattle.job_run.specs.Readings.{Takes}
 use Rattle.job_run.specs.Stages.{making_cost}
 use Rattle.job_run.specs.declared.reading.Taken.TheVariants as taken
 use Rattle.job_run.specs.declared.states.Doing.TheVariants as doing

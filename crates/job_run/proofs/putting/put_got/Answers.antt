@@ -1,9 +1,9 @@
-use Rattle.std.proofs.Common.{ℕ, List, ◌∷◌, ◌∙◌, sym, subst, arith}
+use Rattle.std.proofs.Common.{ℕ, List, subst, arith}
 use Rattle.job_run.specs.Stages.{making_cost}
 use Rattle.job_run.specs.States.{Continues}
 use Rattle.job_run.specs.declared.states.Doing.TheVariants as doing
 use Rattle.job_run.specs.declared.states.Filling.TheVariants as filling
-use Rattle.std.proofs.Common.{◌≡◌, Option, Some, None}
+use Rattle.std.proofs.Common.{Option}
 use Rattle.job_run.specs.Stages.{IsMaking}
 use Rattle.job_run.specs.declared.reading.Reading.{Reading}
 use Rattle.job_run.specs.Failures.{Changes}

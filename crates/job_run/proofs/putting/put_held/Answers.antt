@@ -1,4 +1,4 @@
-use Rattle.std.proofs.Common.{ap, length, take, drop, ℕ, List, ◌∷◌, ◌∙◌, sym, subst, arith}
+use Rattle.std.proofs.Common.{ap, length, take, drop, ℕ, List, ◌∙◌, sym, subst, arith}
 use Rattle.job_run.specs.Stages.{making_cost}
 use Rattle.job_run.specs.States.{Continues}
 use Rattle.job_run.specs.declared.states.Doing.TheVariants as doing

@@ -1,8 +1,7 @@
-use Rattle.std.proofs.Common.{rules, length-append, arith, ◌≡◌, ◌≤◌, ℕ, List, ◌+◌, ◌<◌, ◌^◌, length, false, ◌==◌, ◌++◌, ◌∙◌, sym, subst}
+use Rattle.std.proofs.Common.{rules, length-append, arith, ◌≡◌, length, ◌++◌, ◌∙◌, sym, subst}
 use Rattle.std.proofs.lemmas.Bool.{ne_eqb}
-use Rattle.mat_digest.specs.Fed.{HasTaken}
 use Rattle.job_run.specs.Pieces.{most_bytes}
-use Rattle.job_run.specs.Readings.{HasGiven, Takes}
+use Rattle.job_run.specs.Readings.{Takes}
 use Rattle.job_run.specs.declared.reading.Taken.{Taken}
 use Rattle.job_run.proofs.Takings.{last_takes, more_goes_on, wrong_takes}
 use Rattle.job_run.proofs.reading.Reading.take.Goals as goal
