@@ -1,11 +1,13 @@
 -- Which device the next step of a job calls, and what a stage keeps for a job's goal.
-use Rattle.std.specs.Prelude.{◌≡◌, ℕ, Bool, List, [], Option, Some, None}
+use Rattle.std.specs.Prelude.{◌≡◌, ◌||◌, ℕ, Bool, true, false, List, [], Option, Some, None}
 use Rattle.std.specs.Option.{ForSome}
 use Rattle.mat_tree.specs.Parts.{bare}
 use Rattle.mat_tree.specs.Parts.{Part as TreePart}
 use Rattle.mat_tree.specs.declared.flat.Flat.{Flat}
 use Rattle.region_port.specs.declared.port.Region.{Ghosts}
 use Rattle.fetch_port.specs.Fetches.{Blobs}
+use Rattle.mat_digest.specs.declared.digest.Digest.{Digest}
+use Rattle.job_run.specs.Readings.{completes, goes_on}
 use Rattle.fetch_port.specs.Watches.{Watch}
 use Rattle.mat_model.specs.declared.entries.Outcome.{Outcome}
 use Rattle.region_port.specs.States.{loan_region, loan_tree}
@@ -127,3 +129,29 @@ LoanStays g None None = Unit {0}
 LoanStays g None (Some new) = ⊥
 LoanStays g (Some old) None = ⊥
 LoanStays g (Some old) (Some new) = KeepsLoan g old new
+
+-- ---- what is read in a lent part
+
+-- whether a piece that was read is put next
+abbrev pub is_filled : Filling → Bool
+is_filled (filling.Held at) = false
+is_filled (filling.Due from reading) = false
+is_filled (filling.Got from at piece more) = true
+
+abbrev pub is_doing_filled : Doing → Bool
+is_doing_filled (doing.Dir rel) = false
+is_doing_filled (doing.Link rel target) = false
+is_doing_filled (doing.File filing how) = is_filled how
+is_doing_filled doing.Sync = false
+
+abbrev pub is_got : {R : Type 0} {g : Ghosts R} → State R g → Bool
+is_got (state.Wiping region) = false
+is_got (state.Emptying region) = false
+is_got (state.Clearing region order) = false
+is_got (state.Making making) = is_doing_filled making.doing
+is_got (state.Ended left ended) = false
+is_got state.Moving = false
+
+-- whether a piece behind the bytes given is what is due
+abbrev pub is_due : Digest → List ℕ → List ℕ → Bool
+is_due wanted given piece = goes_on wanted given piece || completes wanted given piece

@@ -1,11 +1,16 @@
 // The step of a make that reads the next piece of a file in the part that is lent.
-ghost use Rattle.std.specs.Prelude.{◌≡◌, ◌≤◌, ◌+◌, ℕ, List, Option, Some, None, length};
+ghost use Rattle.std.specs.Prelude.{◌≡◌, ◌≤◌, ◌||◌, true, ℕ, List, Option, Some, None, length};
 ghost use Rattle.region_port.specs.States.{loan_region, loan_tree};
 ghost use Rattle.job_run.specs.Failures.{IsDiskCall};
 ghost use Rattle.job_run.specs.Pieces.{asked_for};
 ghost use Rattle.job_run.specs.declared.reading.Reading.{Reading};
+ghost use Rattle.job_run.specs.Readings.{HasGiven};
 ghost use Rattle.job_run.specs.Stages.{IsMaking, making_cost};
 ghost use Rattle.job_run.specs.States.{Continues, failure_of, region_of};
+ghost use Rattle.job_run.specs.Steps.{is_due, is_got};
+ghost use Rattle.mat_tree.specs.Parts.{Part};
+ghost use Rattle.region_port.specs.Reads.{file_bytes, piece};
+ghost use Rattle.std.specs.Option.{is_some};
 
 use crate::acts;
 use crate::failure::fault;
@@ -42,6 +47,7 @@ fn take_lent<R: Region>(
     requires short { length piece.items ≤ asked_for filing.digest.size reading.at }
     ensures region { region_of result ≡ Some region }
     ensures failure { failure_of result ≡ None }
+    ensures due { (given : List ℕ) → HasGiven reading given → is_due filing.digest given piece.items ≡ true → is_got result ≡ true }
     ensures goes { Continues (R.place region) order.tree order.lent (making_cost order (Doing.File filing (Filling.Due (Source.Loan rel) reading))) result }
 {
     let at = reading.at;
@@ -88,6 +94,7 @@ pub(crate) fn read<R: Region>(
     ensures part { R.part (loan_region loan.new) ≡ R.part (loan_region loan.old) }
     ensures rough { R.rough (loan_region loan.new) ≡ R.rough (loan_region loan.old) }
     ensures call { IsDiskCall (R.fault_count (loan_region loan.old)) (R.fault_count (loan_region loan.new)) (R.watch (loan_region loan.old)) (R.watch (loan_region loan.new)) (failure_of result) }
+    ensures due { (given : List ℕ) (told : Part) (bytes : List ℕ) → HasGiven reading given → R.part (loan_region loan.old) ≡ Some told → file_bytes (told rel) ≡ Some bytes → is_due filing.digest given (piece reading.at (asked_for filing.digest.size reading.at) bytes) ≡ true → (is_some (failure_of result) || is_got result) ≡ true }
     ensures goes { Continues (R.place region) order.tree order.lent (making_cost order (Doing.File filing (Filling.Due (Source.Loan rel) reading))) result }
 {
     let before = loan.faults();
