@@ -8,7 +8,7 @@ use Rattle.mat_io.specs.declared.answer.Did.TheVariants as did
 use Rattle.mat_model.specs.declared.entries.Outcome.{Outcome}
 use Rattle.mat_tree.specs.Parts.{Node, Part, file, with_node}
 use Rattle.region_port.specs.Calls.{Appends, Puts, Wipes, appended, wiped}
-use Rattle.region_port.specs.Watches.{FailsSo, Watch, after_call}
+use Rattle.mat_io.specs.Watches.{FailsSo, Watch, after_call}
 use Rattle.job_run.specs.Failures.{Changes, IsDiskCall, did_failure}
 use Rattle.job_run.specs.Growing.{with_piece}
 

@@ -10,7 +10,7 @@ use Rattle.mat_model.specs.declared.answers.Device.TheVariants as device
 use Rattle.mat_model.specs.declared.answers.FaultNote.{FaultNote}
 use Rattle.mat_model.specs.declared.entries.Outcome.{Outcome}
 use Rattle.mat_model.specs.declared.entries.Outcome.TheVariants as outcome
-use Rattle.region_port.specs.Watches.{FailsSo, Watch, after_call}
+use Rattle.mat_io.specs.Watches.{FailsSo, Watch, after_call}
 
 -- a note of a device's counts around a call
 abbrev pub note_of : Device → ℕ → ℕ → FaultNote

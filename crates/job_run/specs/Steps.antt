@@ -8,7 +8,7 @@ use Rattle.region_port.specs.declared.port.Region.{Ghosts}
 use Rattle.fetch_port.specs.Fetches.{Blobs}
 use Rattle.mat_digest.specs.declared.digest.Digest.{Digest}
 use Rattle.job_run.specs.Readings.{completes, goes_on}
-use Rattle.fetch_port.specs.Watches.{Watch}
+use Rattle.mat_io.specs.Watches.{Watch}
 use Rattle.mat_model.specs.declared.entries.Outcome.{Outcome}
 use Rattle.region_port.specs.States.{loan_region, loan_tree}
 use Rattle.region_port.specs.declared.states.ReadLoan.{ReadLoan}

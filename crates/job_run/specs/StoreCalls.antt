@@ -2,7 +2,7 @@
 use Rattle.std.specs.Prelude.{◌≡◌, ◌≤◌, ℕ, false, List, ◌++◌, Option, Some, None}
 use Rattle.std.specs.Option.{option_map}
 use Rattle.fetch_port.specs.Fetches.{Blobs, GivesPiece, Lacks, asks_after, held_at}
-use Rattle.fetch_port.specs.Watches.{Watch, FailsSo, after_call}
+use Rattle.mat_io.specs.Watches.{Watch, FailsSo, after_call}
 use Rattle.mat_digest.specs.Digests.{digest_of}
 use Rattle.mat_digest.specs.declared.digest.Digest.{Digest}
 use Rattle.mat_io.specs.Causes.{Rose}

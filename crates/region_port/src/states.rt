@@ -225,6 +225,13 @@ impl<R: Region> ReadLoan<R> {
         self.region.read_piece(rel, at, most)
     }
 
+    /// How many calls on the region failed. Takes no memory.
+    pub fn faults(&self) -> u64
+        ensures { result ≡ R.fault_count (loan_region self.now) }
+    {
+        self.region.faults()
+    }
+
     /// The region, without the tree. Takes no memory.
     pub fn into_region(self) -> R
         ensures { result ≡ loan_region self }

@@ -1,6 +1,6 @@
 use Rattle.std.proofs.Common.{ℕ, Bool, List, sym, subst}
 use Rattle.fetch_port.specs.Fetches.{GivesPiece, held_at}
-use Rattle.fetch_port.specs.Watches.{FailsSo}
+use Rattle.mat_io.specs.Watches.{FailsSo}
 use Rattle.job_run.specs.Pieces.{asked_for}
 use Rattle.job_run.specs.Stages.{making_cost}
 use Rattle.job_run.specs.declared.states.Doing.TheVariants as doing
