@@ -1,3 +1,4 @@
 pub mod PlaceLemmas
 pub mod LoanLemmas
 pub mod TiedLemmas
+pub mod PointMoves

@@ -29,12 +29,12 @@ use Rattle.core_laws.proofs.PlaceLemmas.{give_aside, give_brings, take_aside}
 -- ---- rows that are home
 
 -- a row that is home stands, and no job reads it
-home_parts : (jobs : List Job) (row : Row) → is_home jobs row ≡ true → (row.stands ≡ true) × (are_reading jobs row.stamp ≡ false)
+pub home_parts : (jobs : List Job) (row : Row) → is_home jobs row ≡ true → (row.stands ≡ true) × (are_reading jobs row.stamp ≡ false)
 home_parts jobs row home =
     let parts = and_parts row.stands (not (are_reading jobs row.stamp)) home in
     (parts.0, not-true (are_reading jobs row.stamp) parts.1)
 
-home_from : (jobs : List Job) (row : Row) → row.stands ≡ true → are_reading jobs row.stamp ≡ false → is_home jobs row ≡ true
+pub home_from : (jobs : List Job) (row : Row) → row.stands ≡ true → are_reading jobs row.stamp ≡ false → is_home jobs row ≡ true
 home_from jobs row stands unread = and_from row.stands (not (are_reading jobs row.stamp)) stands (ap not unread)
 
 -- a job that reads the part of a stamp reads its row

@@ -3,6 +3,7 @@
 
 mod disk_laws;
 mod loan_laws;
+mod point_laws;
 mod tied_laws;
 
 pub use disk_laws::{
@@ -13,6 +14,7 @@ pub use loan_laws::{
     begin_keeps_loans, end_keeps_loans, fewer_loans_are_apart, free_path_is_not_lent,
     give_keeps_out, loan_is_lent, loans_lie_apart, take_keeps_out,
 };
+pub use point_laws::{end_drops_job, end_leaves_rows, request_keeps_jobs, request_keeps_tied};
 pub use tied_laws::{
     away_row_is_clear, begin_keeps_clear, begin_keeps_tied, debris_is_clear, end_keeps_tied,
     fewer_spoken_are_tied, give_brings_tree, give_keeps_tied, loan_is_clear, read_row_is_away,
