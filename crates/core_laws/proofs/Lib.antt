@@ -2,3 +2,4 @@ pub mod PlaceLemmas
 pub mod LoanLemmas
 pub mod TiedLemmas
 pub mod PointMoves
+pub mod CoveredLemmas

@@ -1,3 +1,4 @@
+pub mod Covered
 pub mod Loans
 pub mod Places
 pub mod Tied

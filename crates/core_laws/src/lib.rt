@@ -1,11 +1,16 @@
 //! Floor of the machine: what holds of the disk at a point, each law a public function without a body whose clause is the law.
 #![tactic(auto)]
 
+mod covered_laws;
 mod disk_laws;
 mod loan_laws;
 mod point_laws;
 mod tied_laws;
 
+pub use covered_laws::{
+    bare_give_keeps_nodes, give_keeps_nodes, give_keeps_rough, kept_places_keep_nodes,
+    kept_places_keep_rough, settled_give_keeps_rough, take_keeps_nodes, take_keeps_rough,
+};
 pub use disk_laws::{
     give_brings_part, give_leaves_others, same_keeps_bare, take_and_give_is_same,
     take_leaves_nothing, take_leaves_others,
