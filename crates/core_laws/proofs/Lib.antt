@@ -3,3 +3,4 @@ pub mod LoanLemmas
 pub mod TiedLemmas
 pub mod PointMoves
 pub mod CoveredLemmas
+pub mod PlacesLemmas

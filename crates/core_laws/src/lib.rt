@@ -4,6 +4,7 @@
 mod covered_laws;
 mod disk_laws;
 mod loan_laws;
+mod place_laws;
 mod point_laws;
 mod tied_laws;
 
@@ -18,6 +19,10 @@ pub use disk_laws::{
 pub use loan_laws::{
     begin_keeps_loans, end_keeps_loans, fewer_loans_are_apart, free_path_is_not_lent,
     give_keeps_out, loan_is_lent, loans_lie_apart, take_keeps_out,
+};
+pub use place_laws::{
+    begin_keeps_node_places, begin_keeps_rough_places, request_keeps_node_places,
+    request_keeps_rough_places,
 };
 pub use point_laws::{end_drops_job, end_leaves_rows, request_keeps_jobs, request_keeps_tied};
 pub use tied_laws::{
