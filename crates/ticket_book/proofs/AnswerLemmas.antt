@@ -1,5 +1,5 @@
 -- The rules of a book's tickets, where one comes and where some are answered.
-use Rattle.std.proofs.Common.{◌≡◌, ◌+◌, ◌<◌, ◌≤◌, ℕ, suc, nat_lt, Bool, true, false, ◌&&◌, cond, List, [], ◌∷◌, ◌++◌, map, take, drop, get_or, length, length-append, refl, ◌∙◌, sym, ap, subst, arith, count_by}
+use Rattle.std.proofs.Common.{◌≡◌, ◌+◌, ◌<◌, ◌≤◌, ℕ, suc, nat_lt, Bool, true, false, not, ◌&&◌, cond, List, [], ◌∷◌, ◌++◌, map, take, drop, get_or, length, length-append, refl, ◌∙◌, sym, ap, subst, arith, count_by}
 use Rattle.std.proofs.lemmas.Bool.{and_from, and_parts}
 use Rattle.std.proofs.lemmas.List.{append_assoc, length-map, map-append}
 use Rattle.std.proofs.lemmas.List.Elements.{filter-append}
@@ -10,7 +10,7 @@ use Rattle.mat_model.specs.declared.answers.Answer.{Answer}
 use Rattle.mat_model.specs.declared.book.Ticket.{Ticket}
 use Rattle.mat_model.specs.Books.{are_ascending, number_of}
 use Rattle.mat_model.specs.Tickets.{is_open, with_answer}
-use Rattle.ticket_book.specs.Asked.{AreTickets, Tickets, answer_all, answered_if, is_due, is_earlier}
+use Rattle.ticket_book.specs.Asked.{AreTickets, Tickets, answer_all, answered_if, has_number, is_due, is_earlier, is_same, was_answered}
 
 -- ---- counting
 
@@ -30,6 +30,12 @@ due_few test (x ∷ ts) = by (is_open x) (test x) (counted_cons (is_due test) x 
     by true true e f more = omega (arith, e, f, more)
     by true false e f more = omega (arith, e, f, more)
     by false b e f more = omega (arith, e, f, more)
+
+numbers_cons : (n x : ℕ) (ns : List ℕ) → count_by (is_same n) (x ∷ ns) ≡ cond (is_same n x) 1 0 + count_by (is_same n) ns
+numbers_cons n x ns = sum_by-cons (λ (m : ℕ). cond (is_same n m) 1 0) x ns
+
+numbers_append : (n : ℕ) (xs ys : List ℕ) → count_by (is_same n) (xs ++ ys) ≡ count_by (is_same n) xs + count_by (is_same n) ys
+numbers_append n xs ys = sum_by-append (λ (m : ℕ). cond (is_same n m) 1 0) xs ys
 
 -- ---- a ticket comes
 
@@ -65,6 +71,14 @@ asked_kept all news answered numbers t are later lies is same = record {
       let count = ap (λ (ts : List Ticket). count_by is_open ts) is in
       let size = ap (λ (ts : List Ticket). length ts) is in
       let few = ap (λ (ns : List ℕ). length ns) same in omega (arith, one, here, none, sum, long, single, before, count, size, few);
+  listed = λ (n : ℕ).
+      let one = counted_cons (was_answered n) t [] in
+      let here : ◌≡◌ {A = ℕ} (cond (was_answered n t) 1 0) 0 = ap (λ (b : Bool). cond {A = ℕ} (not b && has_number n t) 1 0) lies in
+      let none : count_by (was_answered n) [] ≡ 0 = refl in
+      let sum = counted_append (was_answered n) all (t ∷ []) in
+      let before = are.listed n in
+      let count = ap (λ (ts : List Ticket). count_by (was_answered n) ts) is in
+      let few = ap (λ (ns : List ℕ). count_by (is_same n) ns) same in omega (arith, one, here, none, sum, before, count, few);
 }
 
 -- ---- some are answered
@@ -97,6 +111,27 @@ open_fewer test at given (x ∷ ts) =
     by false shut b so e f g more =
         let here : ◌≡◌ {A = ℕ} (cond (is_open x) 1 0) 0 = ap (λ (b : Bool). cond {A = ℕ} b 1 0) shut in omega (arith, e, f, g, more, here)
 
+listed_once : (n : ℕ) (test : Ticket → Bool) (at : ℕ) (given : Answer) (ts : List Ticket)
+    → count_by (is_same n) (map number_of (filter (is_due test) ts)) + count_by (was_answered n) ts ≡ count_by (was_answered n) (map (answered_if test at given) ts)
+listed_once n test at given [] = refl
+listed_once n test at given (x ∷ ts) =
+    by (is_open x) refl (test x) refl (counted_cons (was_answered n) x ts)
+    (counted_cons (was_answered n) (answered_if test at given x) (map (answered_if test at given) ts)) (listed_once n test at given ts)
+  where
+    by : (a : Bool) → is_open x ≡ a → (b : Bool) → test x ≡ b
+        → count_by (was_answered n) (x ∷ ts) ≡ cond (not a && has_number n x) 1 0 + count_by (was_answered n) ts
+        → count_by (was_answered n) (map (answered_if test at given) (x ∷ ts))
+        ≡ cond (was_answered n (cond (a && b) (with_answer at given x) x)) 1 0 + count_by (was_answered n) (map (answered_if test at given) ts)
+        → count_by (is_same n) (map number_of (filter (is_due test) ts)) + count_by (was_answered n) ts ≡ count_by (was_answered n) (map (answered_if test at given) ts)
+        → count_by (is_same n) (map number_of (cond (a && b) (x ∷ filter (is_due test) ts) (filter (is_due test) ts))) + count_by (was_answered n) (x ∷ ts)
+        ≡ count_by (was_answered n) (map (answered_if test at given) (x ∷ ts))
+    by true still true so f g more = let one = numbers_cons n x.number (map number_of (filter (is_due test) ts)) in omega (arith, one, f, g, more)
+    by true still false so f g more =
+        let here : ◌≡◌ {A = ℕ} (cond (was_answered n x) 1 0) 0 = ap (λ (b : Bool). cond {A = ℕ} (not b && has_number n x) 1 0) still in omega (arith, here, f, g, more)
+    by false shut b so f g more =
+        let here : ◌≡◌ {A = ℕ} (cond (was_answered n x) 1 0) (cond (has_number n x) 1 0) =
+        ap (λ (b : Bool). cond {A = ℕ} (not b && has_number n x) 1 0) shut in omega (arith, here, f, g, more)
+
 pub answered_kept : (test : Ticket → Bool) (at : ℕ) (given : Answer) (tickets : Tickets) → AreTickets tickets → AreTickets (answer_all test at given tickets)
 answered_kept test at given tickets are = record {
   ascending = ap are_ascending (numbers_same test at given tickets.all) ∙ are.ascending;
@@ -107,6 +142,10 @@ answered_kept test at given tickets are = record {
       let few = open_fewer test at given tickets.all in
       let before = are.counted in
       let size = length-map tickets.all (answered_if test at given) in omega (arith, more, one, two, few, before, size);
+  listed = λ (n : ℕ).
+      let more = numbers_append n tickets.answered (map number_of (filter (is_due test) tickets.all)) in
+      let once = listed_once n test at given tickets.all in
+      let before = are.listed n in omega (arith, more, once, before);
 }
 
 -- there is room for the numbers of those that will be answered

@@ -1,5 +1,5 @@
 -- The tickets of a book, as its contracts see them beside the definitions of the model.
-use Rattle.std.specs.Prelude.{◌≡◌, ◌+◌, ℕ, nat_le, nat_lt, ◌==◌, ◌&&◌, Bool, true, if◌then◌else◌, List, [], ◌∷◌, ◌++◌, length, map, Option, count_by}
+use Rattle.std.specs.Prelude.{◌≡◌, ◌+◌, ℕ, nat_le, nat_lt, ◌==◌, ◌&&◌, Bool, not, true, if◌then◌else◌, List, [], ◌∷◌, ◌++◌, length, map, Option, count_by}
 use Rattle.std.specs.List.{filter, find}
 use Rattle.std.specs.Option.{option_map}
 use Rattle.mat_path.specs.Names.{is_prefix, overlap}
@@ -61,9 +61,18 @@ with_ticket ticket tickets = record { all = tickets.all ++ ticket ∷ []; answer
 abbrev pub ticket_at : List Ticket → ℕ → Option Ticket
 ticket_at tickets number = find (has_number number) tickets
 
+-- whether a ticket is answered, and has a number
+abbrev pub was_answered : ℕ → Ticket → Bool
+was_answered number ticket = not (is_open ticket) && has_number number ticket
+
+abbrev pub is_same : ℕ → ℕ → Bool
+is_same number other = other == number
+
 -- what is true of a book's tickets at all times
 pub record AreTickets (tickets : Tickets) : Type 0 where
   -- they stand in strict order of number
   pub ascending : are_ascending (map number_of tickets.all) ≡ true
   -- as many were answered as aren't open any more
   pub counted : length tickets.answered + count_by is_open tickets.all ≡ length tickets.all
+  -- a number is listed as often as there is an answered ticket of it: once, or never
+  pub listed : (number : ℕ) → count_by (is_same number) tickets.answered ≡ count_by (was_answered number) tickets.all
