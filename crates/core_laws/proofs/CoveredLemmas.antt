@@ -1,11 +1,11 @@
 -- Nodes and rough paths within some places, where parts are taken and given and places come and go.
-use Rattle.std.proofs.Common.{◌≡◌, ◌≤◌, ℕ, Bool, true, false, not, ◌&&◌, ◌||◌, cond, List, ◌++◌, length, drop, Option, Some, None, refl, sym, ap, subst, ◌∙◌, Contains, arith}
+use Rattle.std.proofs.Common.{◌≡◌, ◌≤◌, ℕ, Bool, true, false, not, ◌&&◌, ◌||◌, cond, List, length, drop, None, refl, Contains, arith}
 use Rattle.std.specs.Option.{is_some}
 use Rattle.std.proofs.lemmas.Bool.{false_from_ne_true}
 use Rattle.mat_path.specs.Covering.{covering}
 use Rattle.mat_path.specs.Names.{is_prefix}
 use Rattle.mat_path.proofs.CoveringLemmas.{covering-below}
-use Rattle.mat_tree.specs.Parts.{Node, Part, replaced, without}
+use Rattle.mat_tree.specs.Parts.{Part, replaced, without}
 use Rattle.region_port.specs.Calls.{Paths, paths_below, paths_of_both, paths_outside}
 use Rattle.core_laws.specs.Covered.{AreKeptAside, AreKeptPlaces, AreNodesWithin, IsRoughWithin}
 use Rattle.core_laws.specs.Loans.{AreOut}

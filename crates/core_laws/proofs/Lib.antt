@@ -4,3 +4,4 @@ pub mod TiedLemmas
 pub mod PointMoves
 pub mod CoveredLemmas
 pub mod PlacesLemmas
+pub mod EndLemmas

@@ -45,6 +45,13 @@ begin_loans jobs job lent are = record {
       ]);
 }
 
+pub no_loans : AreLoans [] []
+no_loans = record { out = λ loan among. among; ours = λ loan among. among }
+
+pub jobs_out : (jobs : List Job) (lent : List (List (List ℕ))) (content : Part) (rough : Paths) → AreLoans jobs lent → AreOut lent content rough →
+    AreOut (loans jobs) content rough
+jobs_out jobs lent content rough are out = λ loan among. out loan (are.out loan among)
+
 -- ---- loans that are given back
 
 -- a loan stays that isn't one of those

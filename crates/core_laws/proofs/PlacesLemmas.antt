@@ -1,17 +1,17 @@
 -- Where nodes and rough paths may be, as requests come and jobs begin: what was at or below a place is so still, but for what is out.
-use Rattle.std.proofs.Common.{◌≡◌, ◌≤◌, ◌<◌, ℕ, ◌+◌, ◌==◌, Bool, true, false, not, ◌&&◌, ◌||◌, ◌⊎◌, inl, inr, cond, List, [], ◌∷◌, ◌++◌, Option, Some, None, refl, sym, ap, subst, ◌∙◌, map, Contains, arith}
+use Rattle.std.proofs.Common.{◌≡◌, ◌≤◌, ◌<◌, ℕ, ◌+◌, Bool, true, false, not, ◌&&◌, ◌||◌, ◌⊎◌, inl, inr, cond, List, [], ◌∷◌, Option, Some, None, refl, sym, ap, subst, ◌∙◌, map, Contains, arith}
 use Rattle.std.specs.List.{filter, list_any}
 use Rattle.std.specs.Option.{option_map_or}
-use Rattle.std.proofs.lemmas.Bool.{and_from, both_ways, eqb-true, false_from_ne_true, not-true, or_cases, or_left, or_right, true_from_ne_false}
+use Rattle.std.proofs.lemmas.Bool.{and_from, both_ways, eqb-true, false_from_ne_true, not-true, or_cases, or_left, or_right}
 use Rattle.std.proofs.lemmas.List.Elements.{All-contains, Contains-append_cases}
 use Rattle.mat_path.specs.Covering.{covering}
 use Rattle.mat_path.specs.Names.{is_prefix, overlap, same_names}
 use Rattle.mat_path.proofs.CoveringLemmas.{covered_below, covered_by, covering-append, contains_among}
 use Rattle.mat_path.proofs.CoveringRows.{among_rows}
-use Rattle.mat_path.proofs.Elements.{contains_cases, contains_filter, contains_first, contains_map, contains_more, filtered_contains, mapped_contains}
+use Rattle.mat_path.proofs.Elements.{contains_filter, contains_first, contains_map, contains_more, filtered_contains, mapped_contains}
 use Rattle.mat_path.proofs.Overlaps.{overlap-sym}
 use Rattle.mat_path.proofs.PathLemmas.{prefix-trans}
-use Rattle.mat_path.proofs.SameNames.{same_names-eq, same_names-sym}
+use Rattle.mat_path.proofs.SameNames.{same_names-eq}
 use Rattle.mat_model.specs.declared.answers.Reply.{Reply}
 use Rattle.mat_model.specs.declared.book.Row.{Row}
 use Rattle.mat_model.specs.declared.entries.Entry.{Entry}

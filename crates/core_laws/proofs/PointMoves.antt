@@ -1,7 +1,6 @@
 -- What entries do to the jobs and to the rows whose parts the disk has.
-use Rattle.std.proofs.Common.{◌≡◌, ℕ, ◌==◌, Bool, true, false, ◌&&◌, ◌⊎◌, inl, inr, cond, List, Option, Some, None, refl, sym, ap, subst, ◌∙◌, Contains}
+use Rattle.std.proofs.Common.{◌≡◌, ℕ, ◌==◌, Bool, true, false, ◌&&◌, inl, inr, cond, List, Option, Some, None, refl, sym, ap, subst, ◌∙◌, Contains}
 use Rattle.std.specs.List.{filter, find, list_any}
-use Rattle.std.proofs.lemmas.Bool.{and_from}
 use Rattle.mat_tree.specs.Parts.{Part}
 use Rattle.mat_model.specs.declared.answers.Recorded.{Recorded}
 use Rattle.mat_model.specs.declared.answers.Reply.{Reply}
@@ -24,7 +23,7 @@ use Rattle.model_laws.specs.RowRules.{served_at}
 use Rattle.model_laws.specs.WorkRules.{are_reading}
 use Rattle.model_laws.proofs.RowLemmas.{row_step}
 use Rattle.region_port.specs.Calls.{Paths}
-use Rattle.core_laws.specs.Tied.{AreTied, IsLeftBy, IsTreeAt, WasHome, is_home}
+use Rattle.core_laws.specs.Tied.{AreTied, IsLeftBy, WasHome}
 use Rattle.core_laws.proofs.TiedLemmas.{home_from, home_parts, rows_tied}
 
 -- ---- jobs

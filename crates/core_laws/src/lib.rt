@@ -18,11 +18,13 @@ pub use disk_laws::{
 };
 pub use loan_laws::{
     begin_keeps_loans, end_keeps_loans, fewer_loans_are_apart, free_path_is_not_lent,
-    give_keeps_out, loan_is_lent, loans_lie_apart, take_keeps_out,
+    give_keeps_out, loan_is_lent, loans_are_out, loans_lie_apart, nothing_is_lent, take_keeps_out,
 };
 pub use place_laws::{
-    begin_keeps_node_places, begin_keeps_rough_places, request_keeps_node_places,
-    request_keeps_rough_places,
+    begin_keeps_node_places, begin_keeps_rough_places, end_keeps_node_places,
+    end_keeps_rough_places, ended_make_is_node_place, ended_make_is_rough_place,
+    ended_wipe_is_place, request_keeps_node_places, request_keeps_rough_places,
+    returned_part_is_node_place,
 };
 pub use point_laws::{end_drops_job, end_leaves_rows, request_keeps_jobs, request_keeps_tied};
 pub use tied_laws::{

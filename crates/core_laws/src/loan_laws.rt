@@ -5,9 +5,14 @@ ghost use Rattle.mat_path.specs.Names.{overlap, same_names};
 ghost use Rattle.mat_tree.specs.Parts.{Part, replaced, without};
 ghost use Rattle.mat_model.specs.declared.book.Row.{Row};
 ghost use Rattle.mat_model.specs.WorkState.{Job, WorkState, is_lent, is_other_job, running};
-ghost use Rattle.model_laws.specs.WorkRules.{IsWork, loans_of};
+ghost use Rattle.model_laws.specs.WorkRules.{IsWork, loans, loans_of};
 ghost use Rattle.region_port.specs.Calls.{Paths, paths_below, paths_of_both, paths_outside};
 ghost use Rattle.core_laws.specs.Loans.{AreLoans, AreLoansApart, AreOut, given_back};
+
+/// Where no job runs and nothing is lent, the loans are alike.
+pub fn nothing_is_lent()
+    ensures { AreLoans [] [] }
+{}
 
 /// A begin keeps the loans: what its job takes is lent.
 pub fn begin_keeps_loans()
@@ -43,6 +48,12 @@ pub fn loans_lie_apart()
 /// So are those that are left, where some are given back.
 pub fn fewer_loans_are_apart()
     ensures { (test : List (List ℕ) → Bool) (lent : List (List (List ℕ))) → AreLoansApart lent → AreLoansApart (filter test lent) }
+{}
+
+/// The disk has nothing at or below a loan of a job, where it has nothing at or below what it lends.
+pub fn loans_are_out()
+    ensures { (jobs : List Job) (lent : List (List (List ℕ))) (content : Part) (rough : Paths) → AreLoans jobs lent →
+        AreOut lent content rough → AreOut (loans jobs) content rough }
 {}
 
 /// A take leaves the disk with nothing at or below a loan.
