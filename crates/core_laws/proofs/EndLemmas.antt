@@ -1,5 +1,5 @@
 -- Where nodes and rough paths may be as a job ends, and that what it gives back is at such a place.
-use Rattle.std.proofs.Common.{◌≡◌, ◌≤◌, ℕ, ◌==◌, Bool, true, false, not, ◌||◌, ◌⊎◌, inl, inr, cond, List, ◌∷◌, Option, Some, None, refl, sym, ap, subst, ◌∙◌, map, Contains, arith}
+use Rattle.std.proofs.Common.{◌≡◌, ◌≤◌, ℕ, ◌==◌, Bool, true, false, not, ◌||◌, ◌⊎◌, inl, inr, cond, List, [], ◌∷◌, Option, Some, None, refl, sym, ap, subst, ◌∙◌, map, Contains, arith}
 use Rattle.std.specs.List.{filter, find, list_any}
 use Rattle.std.proofs.lemmas.Bool.{and_parts, both_ways, eqb-true, false_from_ne_true, or_cases, or_left, or_right}
 use Rattle.mat_path.specs.Covering.{covering}
@@ -22,7 +22,7 @@ use Rattle.mat_model.specs.Gate.{Served}
 use Rattle.mat_model.specs.History.{Point, after, answer, answer_done, next_number, recorded_as, work_after}
 use Rattle.mat_model.specs.Rows.{is_at_path, standing_row}
 use Rattle.mat_model.specs.Work.{end_make, finish, is_declared}
-use Rattle.mat_model.specs.WorkState.{Debris, Job, Lent, WorkState, ended, ended_work, has_stamp, is_dirty, is_elsewhere, is_other_job, made_work, marked, path_of_debris, path_of_task, put_debris, returned, running}
+use Rattle.mat_model.specs.WorkState.{Debris, Job, Lent, WorkState, ended, ended_work, has_stamp, is_dirty, is_elsewhere, is_other_job, made_work, marked, path_of_debris, path_of_task, put_debris, refused, returned, running}
 use Rattle.model_laws.specs.WorkRules.{IsJob, IsLentBy, IsMaking, IsWiping, IsWork, claimed_by_part, is_on_disk, loans, loans_of}
 use Rattle.model_laws.proofs.BooksLists.{any_contains}
 use Rattle.model_laws.proofs.Changes.{standing-path}
@@ -417,3 +417,17 @@ end_part_place point entry number out job part rules is runs lends =
             let rests = subst (IsMaking point.book.rows) makes running_job.making was.old was.among (sym was.same.stamp) in
             let lies = rests.1 in
             absurd cc
+
+-- ---- a begin that was refused
+
+refused_keeps : (x : List (List ℕ)) (begun : Task) (rows : List Row) (work : WorkState) → Keep x rows work rows (refused begun work)
+refused_keeps x (task.Make path stamp) rows work = keep_all x rows work
+refused_keeps x (task.Wipe path) rows work = mark_keeps x path rows work
+
+pub refused_nodes : (begun : Task) (rows : List Row) (work : WorkState) (path : List (List ℕ)) → 1 ≤ covering path (node_places rows work) →
+    1 ≤ covering path (node_places rows (refused begun work))
+refused_nodes begun rows work path most = (refused_keeps path begun rows work).nodes most
+
+pub refused_rough : (begun : Task) (work : WorkState) (path : List (List ℕ)) → 1 ≤ covering path (rough_places work) →
+    1 ≤ covering path (rough_places (refused begun work))
+refused_rough begun work path most = (refused_keeps path begun [] work).rough most

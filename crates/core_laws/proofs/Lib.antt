@@ -5,3 +5,4 @@ pub mod PointMoves
 pub mod CoveredLemmas
 pub mod PlacesLemmas
 pub mod EndLemmas
+pub mod BeginLemmas

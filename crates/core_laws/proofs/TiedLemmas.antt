@@ -130,7 +130,7 @@ give_tied spoken rows jobs given inner content its rough tied clear =
 -- ---- rows and jobs that change
 
 -- a tree at the path of a row is that of one with the same path and tree
-tree_moves : (place there : List (List ℕ)) (nodes others : List Flat) (content : Part) (rough : Paths) → place ≡ there → nodes ≡ others →
+pub tree_moves : (place there : List (List ℕ)) (nodes others : List Flat) (content : Part) (rough : Paths) → place ≡ there → nodes ≡ others →
     IsTreeAt there others content rough → IsTreeAt place nodes content rough
 tree_moves place there nodes others content rough path tree at =
     subst (λ (p : List (List ℕ)). IsTreeAt p nodes content rough) (sym path)

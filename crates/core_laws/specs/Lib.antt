@@ -1,4 +1,5 @@
 pub mod Covered
 pub mod Loans
 pub mod Places
+pub mod Sources
 pub mod Tied

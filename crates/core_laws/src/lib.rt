@@ -1,6 +1,7 @@
 //! Floor of the machine: what holds of the disk at a point, each law a public function without a body whose clause is the law.
 #![tactic(auto)]
 
+mod begin_laws;
 mod covered_laws;
 mod disk_laws;
 mod loan_laws;
@@ -8,6 +9,11 @@ mod place_laws;
 mod point_laws;
 mod tied_laws;
 
+pub use begin_laws::{
+    begin_keeps_rows, begin_starts_job, begun_make_is_clear, begun_part_has_tree,
+    begun_part_is_clear, begun_part_is_not_lent, read_part_is_of_row, refused_begin_keeps_jobs,
+    refused_begin_starts_none,
+};
 pub use covered_laws::{
     bare_give_keeps_nodes, give_keeps_nodes, give_keeps_rough, kept_places_keep_nodes,
     kept_places_keep_rough, settled_give_keeps_rough, take_keeps_nodes, take_keeps_rough,
@@ -23,8 +29,8 @@ pub use loan_laws::{
 pub use place_laws::{
     begin_keeps_node_places, begin_keeps_rough_places, end_keeps_node_places,
     end_keeps_rough_places, ended_make_is_node_place, ended_make_is_rough_place,
-    ended_wipe_is_place, request_keeps_node_places, request_keeps_rough_places,
-    returned_part_is_node_place,
+    ended_wipe_is_place, refused_begin_keeps_node_places, refused_begin_keeps_rough_places,
+    request_keeps_node_places, request_keeps_rough_places, returned_part_is_node_place,
 };
 pub use point_laws::{end_drops_job, end_leaves_rows, request_keeps_jobs, request_keeps_tied};
 pub use tied_laws::{

@@ -5,10 +5,11 @@ ghost use Rattle.mat_model.specs.declared.entries.Entry.{Entry};
 ghost use Rattle.mat_model.specs.declared.entries.Event.TheVariants as event;
 ghost use Rattle.mat_model.specs.declared.entries.Outcome.{Outcome};
 ghost use Rattle.mat_model.specs.declared.entries.Outcome.TheVariants as outcome;
+ghost use Rattle.mat_model.specs.declared.entries.Task.{Task};
 ghost use Rattle.mat_model.specs.declared.entries.Task.TheVariants as task;
 ghost use Rattle.mat_model.specs.declared.requests.Asked.{Asked};
 ghost use Rattle.mat_model.specs.History.{Point, after, next_number};
-ghost use Rattle.mat_model.specs.WorkState.{Job, Lent, WorkState, running, started};
+ghost use Rattle.mat_model.specs.WorkState.{Job, Lent, WorkState, refused, running, started};
 ghost use Rattle.model_laws.specs.WorkRules.{IsWork, loans};
 ghost use Rattle.core_laws.specs.Covered.{AreKeptAside, AreKeptPlaces, node_places, rough_places};
 
@@ -84,4 +85,16 @@ pub fn returned_part_is_node_place()
         IsWork (next_number point) point.book.rows point.work → entry.event ≡ event.Done number out →
         running number point.work ≡ Some job → job.lent ≡ Some part →
         1 ≤ covering part.path (node_places (after point entry).book.rows (after point entry).work) }
+{}
+
+/// A begin that was refused keeps the places of nodes.
+pub fn refused_begin_keeps_node_places()
+    ensures { (begun : Task) (rows : List Row) (work : WorkState) (path : List (List ℕ)) → 1 ≤ covering path (node_places rows work) →
+        1 ≤ covering path (node_places rows (refused begun work)) }
+{}
+
+/// And those of rough paths.
+pub fn refused_begin_keeps_rough_places()
+    ensures { (begun : Task) (work : WorkState) (path : List (List ℕ)) → 1 ≤ covering path (rough_places work) →
+        1 ≤ covering path (rough_places (refused begun work)) }
 {}
