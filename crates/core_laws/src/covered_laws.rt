@@ -1,4 +1,4 @@
-ghost use Rattle.std.specs.Prelude.{◌≡◌, ◌≤◌, ℕ, List, Some, None, true, false};
+ghost use Rattle.std.specs.Prelude.{◌≡◌, ◌≤◌, ℕ, List, None, true, false};
 ghost use Rattle.mat_path.specs.Covering.{covering};
 ghost use Rattle.mat_path.specs.Names.{is_prefix};
 ghost use Rattle.mat_tree.specs.Parts.{Part, replaced, without};
