@@ -14,5 +14,7 @@ mod putting;
 mod reading;
 mod states;
 mod stepping;
+#[cfg(test)]
+mod tests;
 
 pub use job::{Done, Job, Next, Stepped, work_off};
