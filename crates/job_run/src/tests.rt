@@ -466,55 +466,76 @@ fn told_make(
     told(alloc, job, store, &mut disk, armed)
 }
 
-/// A make of one file from the store, run to its end.
-fn told_fetch(
+/// A make of one file whose bytes come so, run to its end.
+fn told_file(
     alloc: Global,
     bytes: &[u8],
+    method: Method,
     store: &mut MemStore,
     armed: Armed,
 ) -> Result<Vec<u8>, Fail> {
     let nodes = one(alloc, bytes)?;
-    told_make(alloc, nodes.as_slice(), Method::Fetch, None, store, armed)
+    told_make(alloc, nodes.as_slice(), method, None, store, armed)
+}
+
+/// A row that holds these bytes, or whose bytes the store has.
+fn row_of(alloc: Global, bytes: &[u8], held: bool) -> Result<Method, Memory> {
+    if held {
+        let bytes = Vec::from_slice(alloc, bytes)?;
+        return Ok(Method::Write(Items::of(bytes)));
+    }
+    Ok(Method::Fetch)
 }
 
 #[test]
-fn a_file_comes_from_its_row_or_in_pieces_from_the_store(rt: HostRuntime) -> Result<(), Fail> {
+fn a_file_comes_in_pieces_from_its_row_or_the_store(rt: HostRuntime) -> Result<(), Fail> {
     let alloc = rt.alloc();
-    let held = Items::of(Vec::from_slice(alloc, b"abc")?);
-    let nodes = one(alloc, b"abc")?;
-    let text = told_make(
-        alloc,
-        nodes.as_slice(),
-        Method::Write(held),
-        None,
-        &mut MemStore::new(alloc),
-        Armed::Nothing,
-    )?;
-    assert_eq!(rt; text.as_slice(), b"DDD made settled 3 - 0: .=3".as_slice());
-    let cases: [(usize, Armed, &[u8]); 5] = [
-        (65_536, Armed::Nothing, b"DSDD made settled 3 - 1: .=6"),
-        (65_537, Armed::Nothing, b"DSDSDD made settled 4 - 1: .=7"),
+    let cases: [(bool, usize, Armed, &[u8]); 8] = [
+        (true, 3, Armed::Nothing, b"DDD made settled 3 - 0: .=3"),
+        (true, 65_536, Armed::Nothing, b"DDD made settled 3 - 0: .=6"),
         (
+            true,
+            65_537,
+            Armed::Nothing,
+            b"DDDD made settled 4 - 0: .=7",
+        ),
+        (
+            false,
+            65_536,
+            Armed::Nothing,
+            b"DSDD made settled 3 - 1: .=6",
+        ),
+        (
+            false,
+            65_537,
+            Armed::Nothing,
+            b"DSDSDD made settled 4 - 1: .=7",
+        ),
+        (
+            false,
             65_537,
             Armed::Store(1),
             b"DS fault of the store 0 1 rough 1 - 1:",
         ),
         (
+            false,
             65_537,
             Armed::Store(3),
             b"DSDS fault of the store 0 1 rough 2 - 1: .=6",
         ),
         (
+            false,
             65_537,
             Armed::Part,
             b"D fault of the disk 0 1 rough 1 - 0: .=1",
         ),
     ];
-    for (many, armed, want) in cases {
+    for (held, many, armed, want) in cases {
         let bytes = blob(alloc, many, b'a')?;
+        let method = row_of(alloc, bytes.as_slice(), held)?;
         let mut store = MemStore::new(alloc);
         store.put(Vec::from_slice(alloc, bytes.as_slice())?)?;
-        let text = told_fetch(alloc, bytes.as_slice(), &mut store, armed)?;
+        let text = told_file(alloc, bytes.as_slice(), method, &mut store, armed)?;
         assert_eq!(rt; text.as_slice(), want);
     }
     Ok(())
@@ -538,7 +559,7 @@ fn a_store_may_lack_a_file_or_lie(rt: HostRuntime) -> Result<(), Fail> {
         (bytes.as_slice(), b"DSDS corrupt rough 2 - 5: .=6"),
     ];
     for (bytes, want) in cases {
-        let text = told_fetch(alloc, bytes, &mut store, Armed::Nothing)?;
+        let text = told_file(alloc, bytes, Method::Fetch, &mut store, Armed::Nothing)?;
         assert_eq!(rt; text.as_slice(), want);
     }
     Ok(())
