@@ -6,3 +6,5 @@ pub mod CoveredLemmas
 pub mod PlacesLemmas
 pub mod EndLemmas
 pub mod BeginLemmas
+pub mod WholeLemmas
+pub mod ImageLemmas

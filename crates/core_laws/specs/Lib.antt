@@ -3,3 +3,4 @@ pub mod Loans
 pub mod Places
 pub mod Sources
 pub mod Tied
+pub mod Whole

@@ -8,6 +8,7 @@ mod loan_laws;
 mod place_laws;
 mod point_laws;
 mod tied_laws;
+mod whole_laws;
 
 pub use begin_laws::{
     begin_keeps_rows, begin_starts_job, begun_make_is_clear, begun_part_has_tree,
@@ -37,4 +38,8 @@ pub use tied_laws::{
     away_row_is_clear, begin_keeps_clear, begin_keeps_tied, debris_is_clear, end_keeps_tied,
     fewer_spoken_are_tied, give_brings_tree, give_keeps_tied, loan_is_clear, read_row_is_away,
     rows_keep_tied, same_keeps_tree, take_keeps_tied,
+};
+pub use whole_laws::{
+    image_is_whole, kept_rows_stay_whole, lent_give_keeps_whole, standing_row_is_whole,
+    take_keeps_whole, task_give_keeps_whole,
 };
