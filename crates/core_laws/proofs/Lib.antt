@@ -8,3 +8,5 @@ pub mod EndLemmas
 pub mod BeginLemmas
 pub mod WholeLemmas
 pub mod ImageLemmas
+pub mod KeepMoves
+pub mod OpeningLemmas

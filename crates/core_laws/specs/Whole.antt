@@ -5,7 +5,7 @@ use Rattle.mat_path.specs.Names.{is_prefix, overlap}
 use Rattle.mat_tree.specs.Parts.{HasTree, Part, below}
 use Rattle.mat_model.specs.Kept.{KeptRow}
 use Rattle.mat_model.specs.WorkState.{Job, Lent, is_above}
-use Rattle.model_laws.specs.StoredRules.{path_of_job}
+use Rattle.model_laws.specs.StoredRules.{IsStoredOf, path_of_job}
 use Rattle.region_port.specs.Calls.{Paths}
 
 -- ---- kept rows
@@ -56,3 +56,15 @@ pub record IsImage (jobs : List Job) (regions : Regions) (content : Part) (rough
       IsSpared jobs rough (part.path ++ rel) → image (part.path ++ rel) ≡ regions part.path rel
   -- and nothing is rough any more
   pub settled : (path : List (List ℕ)) → after path ≡ false
+
+-- ---- kept rows that are others
+
+-- a kept row has the path and the tree of one of others
+pub record IsAgain (kept : List KeptRow) (one : KeptRow) : Type 0 where
+  pub old : KeptRow
+  pub among : Contains kept old
+  pub same : IsStoredOf one old.path old.tree
+
+-- so has each of some kept rows
+abbrev pub AreAgain : List KeptRow → List KeptRow → Type 0
+AreAgain kept left = (one : KeptRow) → Contains left one → IsAgain kept one

@@ -4,7 +4,9 @@
 mod begin_laws;
 mod covered_laws;
 mod disk_laws;
+mod keep_laws;
 mod loan_laws;
+mod opening_laws;
 mod place_laws;
 mod point_laws;
 mod tied_laws;
@@ -23,9 +25,15 @@ pub use disk_laws::{
     give_brings_part, give_leaves_others, same_keeps_bare, take_and_give_is_same,
     take_leaves_nothing, take_leaves_others,
 };
+pub use keep_laws::{
+    begin_keeps_whole, entry_keeps_whole, same_trees_are_whole, stored_rows_are_whole,
+};
 pub use loan_laws::{
     begin_keeps_loans, end_keeps_loans, fewer_loans_are_apart, free_path_is_not_lent,
     give_keeps_out, loan_is_lent, loans_are_out, loans_lie_apart, nothing_is_lent, take_keeps_out,
+};
+pub use opening_laws::{
+    nothing_is_out, opening_is_covered, opening_is_tied, opening_keeps_again, settled_is_within,
 };
 pub use place_laws::{
     begin_keeps_node_places, begin_keeps_rough_places, end_keeps_node_places,
