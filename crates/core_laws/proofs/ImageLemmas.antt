@@ -28,7 +28,7 @@ use Rattle.region_port.specs.Calls.{Paths}
 use Rattle.core_laws.specs.Covered.{IsCovered, IsRoughCovered, node_places, rough_places}
 use Rattle.core_laws.specs.Loans.{AreLoans}
 use Rattle.core_laws.specs.Tied.{AreTied, is_home}
-use Rattle.core_laws.specs.Whole.{HaveLentTrees, IsImage, IsSpared, IsUnread, IsWhole, IsWholeRow, Regions}
+use Rattle.core_laws.specs.Whole.{HaveLentTrees, IsImage, IsSpared, IsOutsideParts, IsWhole, IsWholeRow, Regions}
 use Rattle.core_laws.proofs.LoanLemmas.{free_path}
 use Rattle.core_laws.proofs.TiedLemmas.{home_from}
 use Rattle.core_laws.proofs.WholeLemmas.{above_meets, not_above}
@@ -152,7 +152,7 @@ image_whole rows jobs lent kept regions content image rough after stored are tre
     spared_above one among path above =
         near_spared rows jobs lent kept content rough one path stored among (whole one among) (λ over at. above_meets over path one.path at above)
 
-    unread_above : (one : KeptRow) → Contains kept one → (path : List (List ℕ)) → is_above path one.path ≡ true → IsUnread jobs path
+    unread_above : (one : KeptRow) → Contains kept one → (path : List (List ℕ)) → is_above path one.path ≡ true → IsOutsideParts jobs path
     unread_above one among path above =
         λ job part within is.
         false_from_ne_true (is_prefix part.path path)
@@ -166,7 +166,7 @@ image_whole rows jobs lent kept regions content image rough after stored are tre
         near_spared rows jobs lent kept content rough one (one.path ++ rel) stored among (whole one among)
         (λ over at. overlap_of_prefixes over one.path (one.path ++ rel) at (prefix-append one.path rel))
 
-    unread_below : (one : KeptRow) → is_lent one.path jobs ≡ false → (rel : List (List ℕ)) → IsUnread jobs (one.path ++ rel)
+    unread_below : (one : KeptRow) → is_lent one.path jobs ≡ false → (rel : List (List ℕ)) → IsOutsideParts jobs (one.path ++ rel)
     unread_below one free rel =
         λ job part within is.
         let parts = or_parts (overlap (path_of_task job.task) one.path) (option_map_or (lends_at one.path) job.lent false)

@@ -10,3 +10,4 @@ pub mod WholeLemmas
 pub mod ImageLemmas
 pub mod KeepMoves
 pub mod OpeningLemmas
+pub mod CrashLemmas

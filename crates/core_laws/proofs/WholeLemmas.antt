@@ -18,7 +18,7 @@ use Rattle.mat_model.specs.WorkState.{Job, Lent, is_above}
 use Rattle.model_laws.specs.StoredRules.{IsStored, IsStoredOf, path_of_job}
 use Rattle.model_laws.proofs.StoredLemmas.{stored_no_task}
 use Rattle.region_port.specs.Calls.{Paths, paths_below, paths_of_both, paths_outside}
-use Rattle.core_laws.specs.Places.{IsBareBelow}
+use Rattle.core_laws.specs.Places.{IsBareBelow, IsSameBelow}
 use Rattle.core_laws.specs.Whole.{AreWholeOrKept, IsWhole, IsWholeRow}
 use Rattle.core_laws.proofs.PlaceLemmas.{give_aside, take_aside}
 use Rattle.core_laws.proofs.TiedLemmas.{tree_given}
@@ -27,6 +27,27 @@ pub stay_whole : (lent : List (List (List ℕ))) (kept left : List KeptRow) (con
     AreWholeOrKept lent kept left content rough → IsWhole lent left content rough
 stay_whole lent kept left content rough whole each =
     λ one among. elim (each one among) [ inl was ↦ whole one was | inr new ↦ new ]
+
+pub more_lent_whole : (lent more : List (List (List ℕ))) (kept : List KeptRow) (content : Part) (rough : Paths) →
+    ((loan : List (List ℕ)) → Contains lent loan → Contains more loan) → IsWhole lent kept content rough → IsWhole more kept content rough
+more_lent_whole lent more kept content rough within whole =
+    λ one among. record {
+      settled = (whole one among).settled;
+      top = (whole one among).top;
+      tree = λ clear.
+          (whole one among).tree
+          (none_passes (overlap one.path) lent (λ loan there. each_fails (overlap one.path) more loan clear (within loan there)));
+    }
+
+pub same_whole : (lent : List (List (List ℕ))) (kept : List KeptRow) (old new : Part) (before after : Paths) → IsSameBelow [] old before new after →
+    IsWhole lent kept old before → IsWhole lent kept new after
+same_whole lent kept old new before after same whole =
+    λ one among. record {
+      settled = λ path meet. same.rough path (prefix-append [] path) ∙ (whole one among).settled path meet;
+      top = λ path above. same.node path (prefix-append [] path) ∙ (whole one among).top path above;
+      tree = λ clear rel.
+          ap (option_map declared_by) (same.node (one.path ++ rel) (prefix-append [] (one.path ++ rel))) ∙ (whole one among).tree clear rel;
+    }
 
 -- ---- paths
 
@@ -91,12 +112,16 @@ take_whole lent kept taken content rough whole = λ one among. take_row lent tak
 -- ---- gives
 
 -- what a give leaves at a path that isn't at or below its own
-given_node : (given path : List (List ℕ)) (inner content : Part) → is_prefix given path ≡ false → content path ≡ None → replaced given inner content path ≡ None
-given_node given path inner content aside none = ap (λ b. cond b (inner (drop (length given) path)) (content path)) aside ∙ none
+pub given_same : (given path : List (List ℕ)) (inner content : Part) → is_prefix given path ≡ false → replaced given inner content path ≡ content path
+given_same given path inner content aside = ap (λ b. cond b (inner (drop (length given) path)) (content path)) aside
 
-given_rough : (given path : List (List ℕ)) (its rough : Paths) → is_prefix given path ≡ false → rough path ≡ false →
-    paths_of_both rough (paths_below given its) path ≡ false
-given_rough given path its rough aside none = ap (λ b. rough path || (b && its path)) aside ∙ ap (λ b. b || false) none
+pub or_none : (b : Bool) → (b || false) ≡ b
+or_none true = refl
+or_none false = refl
+
+pub rough_same : (given path : List (List ℕ)) (its rough : Paths) → is_prefix given path ≡ false →
+    paths_of_both rough (paths_below given its) path ≡ rough path
+rough_same given path its rough aside = ap (λ b. rough path || (b && its path)) aside ∙ or_none (rough path)
 
 -- a path that overlaps a place isn't at or below one that is apart from this
 apart_aside : (given path place : List (List ℕ)) → overlap given place ≡ false → overlap path place ≡ true → is_prefix given path ≡ false
@@ -108,11 +133,11 @@ give_row : (lent : List (List (List ℕ))) (given : List (List ℕ)) (inner cont
     overlap given one.path ≡ false → IsWholeRow lent content rough one →
     IsWholeRow (filter (is_other_path given) lent) (replaced given inner content) (paths_of_both rough (paths_below given its)) one
 give_row lent given inner content its rough one apart whole = record {
-  settled = λ path meet. given_rough given path its rough (apart_aside given path one.path apart meet) (whole.settled path meet);
+  settled = λ path meet. rough_same given path its rough (apart_aside given path one.path apart meet) ∙ whole.settled path meet;
   top = λ path above.
-      given_node given path inner content
+      given_same given path inner content
       (false_from_ne_true (is_prefix given path) (λ over. both_ways (overlap given one.path) apart (above_meets given path one.path over above)))
-      (whole.top path above);
+      ∙ whole.top path above;
   tree = λ clear rel.
       ap (option_map declared_by)
       ((give_aside given one.path inner content its rough apart).node (one.path ++ rel) (prefix-append one.path rel))
@@ -136,11 +161,11 @@ tree_row : (lent : List (List (List ℕ))) (given : List (List ℕ)) (nodes : Li
 tree_row lent given nodes inner content its rough one at tree none bare whole = record {
   settled = λ path meet. settled path (is_prefix given path) refl (whole.settled path meet);
   top = λ path above.
-      given_node given path inner content
+      given_same given path inner content
       (false_from_ne_true (is_prefix given path)
       (λ over. both_ways (is_above path one.path)
       (not_above path one.path (subst (λ (p : List (List ℕ)). is_prefix p path ≡ true) (sym at.path) over)) above))
-      (whole.top path above);
+      ∙ whole.top path above;
   tree = λ clear.
       subst (λ (p : List (List ℕ)). HasTree (below p (replaced given inner content)) one.tree) (sym at.path)
       (subst (λ (t : List Flat). HasTree (below given (replaced given inner content)) t) (sym at.tree)
@@ -149,7 +174,7 @@ tree_row lent given nodes inner content its rough one at tree none bare whole = 
   where
     settled : (path : List (List ℕ)) (b : Bool) → is_prefix given path ≡ b → rough path ≡ false → paths_of_both rough (paths_below given its) path ≡ false
     settled path true over is = ap (λ b. b || (is_prefix given path && its path)) is ∙ ap (λ b. b && its path) over ∙ none path over
-    settled path false aside is = given_rough given path its rough aside is
+    settled path false aside is = rough_same given path its rough aside ∙ is
 
 pub lent_whole : (rows : List Row) (jobs : List Job) (lent : List (List (List ℕ))) (kept : List KeptRow) (job : Job) (part : Lent)
     (inner content : Part) (its rough : Paths) → IsStored rows jobs kept → Contains jobs job → job.lent ≡ Some part → HasTree inner part.tree →

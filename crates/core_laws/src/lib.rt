@@ -3,6 +3,7 @@
 
 mod begin_laws;
 mod covered_laws;
+mod crash_laws;
 mod disk_laws;
 mod keep_laws;
 mod loan_laws;
@@ -21,6 +22,7 @@ pub use covered_laws::{
     bare_give_keeps_nodes, give_keeps_nodes, give_keeps_rough, kept_places_keep_nodes,
     kept_places_keep_rough, settled_give_keeps_rough, take_keeps_nodes, take_keeps_rough,
 };
+pub use crash_laws::{crash_leaves_image, job_is_returned, nothing_is_returned};
 pub use disk_laws::{
     give_brings_part, give_leaves_others, same_keeps_bare, take_and_give_is_same,
     take_leaves_nothing, take_leaves_others,
@@ -48,6 +50,6 @@ pub use tied_laws::{
     rows_keep_tied, same_keeps_tree, take_keeps_tied,
 };
 pub use whole_laws::{
-    image_is_whole, kept_rows_stay_whole, lent_give_keeps_whole, standing_row_is_whole,
-    take_keeps_whole, task_give_keeps_whole,
+    image_is_whole, kept_rows_stay_whole, lent_give_keeps_whole, more_loans_keep_whole,
+    same_keeps_whole, standing_row_is_whole, take_keeps_whole, task_give_keeps_whole,
 };

@@ -11,7 +11,7 @@ ghost use Rattle.model_laws.specs.WorkRules.{IsWork};
 ghost use Rattle.region_port.specs.Calls.{Paths, paths_below, paths_of_both, paths_outside};
 ghost use Rattle.core_laws.specs.Covered.{IsCovered, IsRoughCovered};
 ghost use Rattle.core_laws.specs.Loans.{AreLoans};
-ghost use Rattle.core_laws.specs.Places.{IsBareBelow};
+ghost use Rattle.core_laws.specs.Places.{IsBareBelow, IsSameBelow};
 ghost use Rattle.core_laws.specs.Tied.{AreTied};
 ghost use Rattle.core_laws.specs.Whole.{AreWholeOrKept, HaveLentTrees, IsImage, IsWhole, IsWholeRow, Regions};
 
@@ -19,6 +19,19 @@ ghost use Rattle.core_laws.specs.Whole.{AreWholeOrKept, HaveLentTrees, IsImage, 
 pub fn kept_rows_stay_whole()
     ensures { (lent : List (List (List ℕ))) (kept left : List KeptRow) (content : Part) (rough : Paths) →
         IsWhole lent kept content rough → AreWholeOrKept lent kept left content rough → IsWhole lent left content rough }
+{}
+
+/// They stay whole where more is lent.
+pub fn more_loans_keep_whole()
+    ensures { (lent more : List (List (List ℕ))) (kept : List KeptRow) (content : Part) (rough : Paths) →
+        ((loan : List (List ℕ)) → Contains lent loan → Contains more loan) → IsWhole lent kept content rough →
+        IsWhole more kept content rough }
+{}
+
+/// They stay whole on a disk that has what it had, and is as rough.
+pub fn same_keeps_whole()
+    ensures { (lent : List (List (List ℕ))) (kept : List KeptRow) (old new : Part) (before after : Paths) →
+        IsSameBelow [] old before new after → IsWhole lent kept old before → IsWhole lent kept new after }
 {}
 
 /// A take keeps them whole, whatever its path is, since this is lent from then on.
