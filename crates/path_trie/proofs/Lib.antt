@@ -14,4 +14,5 @@ pub mod Shortest
 pub mod ShownLemmas
 pub mod Swaps
 pub mod Told
+pub mod Values
 pub mod WalkLemmas

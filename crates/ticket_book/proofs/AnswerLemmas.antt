@@ -31,10 +31,10 @@ due_few test (x ∷ ts) = by (is_open x) (test x) (counted_cons (is_due test) x 
     by true false e f more = omega (arith, e, f, more)
     by false b e f more = omega (arith, e, f, more)
 
-numbers_cons : (n x : ℕ) (ns : List ℕ) → count_by (is_same n) (x ∷ ns) ≡ cond (is_same n x) 1 0 + count_by (is_same n) ns
+pub numbers_cons : (n x : ℕ) (ns : List ℕ) → count_by (is_same n) (x ∷ ns) ≡ cond (is_same n x) 1 0 + count_by (is_same n) ns
 numbers_cons n x ns = sum_by-cons (λ (m : ℕ). cond (is_same n m) 1 0) x ns
 
-numbers_append : (n : ℕ) (xs ys : List ℕ) → count_by (is_same n) (xs ++ ys) ≡ count_by (is_same n) xs + count_by (is_same n) ys
+pub numbers_append : (n : ℕ) (xs ys : List ℕ) → count_by (is_same n) (xs ++ ys) ≡ count_by (is_same n) xs + count_by (is_same n) ys
 numbers_append n xs ys = sum_by-append (λ (m : ℕ). cond (is_same n m) 1 0) xs ys
 
 -- ---- a ticket comes
@@ -83,7 +83,7 @@ asked_kept all news answered numbers t are later lies is same = record {
 
 -- ---- some are answered
 
-numbers_same : (test : Ticket → Bool) (at : ℕ) (given : Answer) (ts : List Ticket) → map number_of (map (answered_if test at given) ts) ≡ map number_of ts
+pub numbers_same : (test : Ticket → Bool) (at : ℕ) (given : Answer) (ts : List Ticket) → map number_of (map (answered_if test at given) ts) ≡ map number_of ts
 numbers_same test at given [] = refl
 numbers_same test at given (x ∷ ts) = by (is_due test x) (numbers_same test at given ts)
   where

@@ -33,7 +33,7 @@ map_shut test at given (x ∷ ts) all =
     ap (λ (b : Bool). cond b (with_answer at given x) x ∷ map (answered_if test at given) ts) (shut_not_due test x parts.0)
     ∙ ap (λ (xs : List Ticket). x ∷ xs) (map_shut test at given ts parts.1)
 
-filter_shut : (test : Ticket → Bool) (ts : List Ticket) → list_all is_shut ts ≡ true → filter (is_due test) ts ≡ []
+pub filter_shut : (test : Ticket → Bool) (ts : List Ticket) → list_all is_shut ts ≡ true → filter (is_due test) ts ≡ []
 filter_shut test [] all = refl
 filter_shut test (x ∷ ts) all =
     let parts = and_parts (is_shut x) (list_all is_shut ts) all in

@@ -37,7 +37,7 @@ earlier_parts n ts ascend i j d order within early =
     let less = leb-true (suc (number_of (get_or ts j d))) n early in
     let rise = rises ts i j d ascend order within in le-leb (suc (number_of (get_or ts i d))) n (omega (arith, less, rise))
 
-ascending_drop : (k : ℕ) (ts : List Ticket) → are_ascending (map number_of ts) ≡ true → are_ascending (map number_of (drop k ts)) ≡ true
+pub ascending_drop : (k : ℕ) (ts : List Ticket) → are_ascending (map number_of ts) ≡ true → are_ascending (map number_of (drop k ts)) ≡ true
 ascending_drop zero ts ascend = ascend
 ascending_drop (suc k) [] ascend = refl
 ascending_drop (suc k) (x ∷ ts) ascend =

@@ -1,3 +1,6 @@
 pub mod AnswerLemmas
+pub mod ByPathLemmas
 pub mod DoneLemmas
+pub mod DueLemmas
 pub mod FoundLemmas
+pub mod RowLemmas

@@ -6,10 +6,11 @@ ghost use Rattle.mat_model.specs.Tickets.{is_open};
 ghost use Rattle.ticket_book.specs.Asked.{AreTickets, answer_all, asks_below, asks_for, asks_over, has_number, is_due, is_earlier, is_from, lowest, ticket_at, with_ticket};
 ghost use Rattle.ticket_book.specs.Whose.{takes};
 
-use crate::lists;
 use crate::whose::Whose;
+use crate::{by_path, lists};
 use mat_model::{Answer, Ticket};
 use mat_path::{Memory, Path};
+use path_trie::Trie;
 use std::alloc::Global;
 use std::marker::Model;
 
@@ -22,19 +23,23 @@ pub struct TicketBook {
     answered: Vec<u64>,
     // No ticket before this place is open.
     done: usize,
+    // The numbers of the open tickets by the path that they ask for, in order.
+    by_path: Trie<Vec<u64>>,
+    alloc: Global,
 }
 
 impl Model for TicketBook {
     ghost use Rattle.std.specs.Prelude.{◌≤◌, length};
     ghost use Rattle.std.specs.Vec.{vec_capacity};
     ghost use Rattle.ticket_book.specs.Asked.{AreTickets, Tickets};
+    ghost use Rattle.ticket_book.specs.ByPath.{IsIndexed};
     ghost use Rattle.ticket_book.specs.Done.{IsDone};
 
     ghost Value = { Tickets };
 
     ghost view = { λ book. record { all = book.tickets.items; answered = book.answered.items } };
 
-    ghost invariant = { λ book. AreTickets (record { all = book.tickets.items; answered = book.answered.items }) × (length book.tickets.items ≤ vec_capacity book.answered) × IsDone book.done book.tickets.items };
+    ghost invariant = { λ book. AreTickets (record { all = book.tickets.items; answered = book.answered.items }) × (length book.tickets.items ≤ vec_capacity book.answered) × IsDone book.done book.tickets.items × IsIndexed book.tickets.items book.by_path };
 }
 
 impl TicketBook {
@@ -47,6 +52,8 @@ impl TicketBook {
             tickets: Vec::new(alloc),
             answered: Vec::new(alloc),
             done: 0,
+            by_path: Trie::new(alloc),
+            alloc,
         }
     }
 
@@ -59,6 +66,7 @@ impl TicketBook {
         self.tickets.reserve(1)?;
         let more = self.tickets.len() - self.answered.len() + 1;
         self.answered.reserve(more)?;
+        by_path::add(&mut self.by_path, self.alloc, &ticket.asked, ticket.number)?;
         self.tickets.push_reserved(ticket);
         Ok(())
     }
@@ -81,7 +89,13 @@ impl TicketBook {
     pub fn answer_row(&mut self, path: &Path, at: u64, answer: Answer)
         ensures { self.new ≡ answer_all (asks_below path.now) at answer self.old }
     {
-        self.answer_all(&Whose::Below(path), at, answer);
+        let known = self.answered.len();
+        self.by_path.is_in_order();
+        by_path::take_below(&mut self.by_path, path, &mut self.answered);
+        lists::sort_from(&mut self.answered, known);
+        let numbers = lists::rest(self.answered.as_slice(), known);
+        lists::answer_numbers(&mut self.tickets, numbers, at, answer);
+        self.done = lists::first_open(self.tickets.as_slice(), self.done);
     }
 
     /// Answers the open tickets that ask for a path that overlaps this one.
@@ -162,6 +176,12 @@ impl TicketBook {
     fn answer_all(&mut self, whose: &Whose, at: u64, answer: Answer)
         ensures { self.new ≡ answer_all (takes whose.now) at answer self.old }
     {
+        by_path::drop_due(
+            &mut self.by_path,
+            self.alloc,
+            lists::rest(self.tickets.as_slice(), self.done),
+            whose,
+        );
         lists::list_due(
             &mut self.answered,
             self.tickets.as_slice(),

@@ -2,6 +2,7 @@
 #![tactic(auto)]
 
 mod book;
+mod by_path;
 mod lists;
 mod whose;
 

@@ -1,10 +1,13 @@
 ghost use Rattle.std.specs.Prelude.{◌≡◌, ◌+◌, ◌≤◌, ◌++◌, [], ◌∷◌, ◌<◌, true, count_by, drop, length, map, take, vec_capacity, if◌then◌else◌};
 ghost use Rattle.std.specs.List.{filter, find, list_all};
+ghost use Rattle.std.specs.List.Sorted.{IsPermutation, IsSorted};
 ghost use Rattle.std.specs.Option.{option_copied};
+ghost use Rattle.std.specs.Ordering.{nat_cmp};
 ghost use Rattle.mat_model.specs.Books.{are_ascending, number_of};
 ghost use Rattle.mat_model.specs.Requests.{is_open_of};
 ghost use Rattle.mat_model.specs.Tickets.{is_open};
-ghost use Rattle.ticket_book.specs.Asked.{answered_if, is_due, is_earlier, is_from, lowest, ticket_at};
+ghost use Rattle.ticket_book.specs.Asked.{answered_if, has_number, is_due, is_earlier, is_from, lowest, ticket_at};
+ghost use Rattle.ticket_book.specs.ByPath.{is_among};
 ghost use Rattle.ticket_book.specs.Found.{first_if, is_past};
 ghost use Rattle.ticket_book.specs.Done.{IsDone};
 ghost use Rattle.ticket_book.specs.Whose.{takes};
@@ -12,12 +15,12 @@ ghost use Rattle.ticket_book.specs.Whose.{takes};
 use crate::whose::{Whose, is_open};
 use mat_model::{Answer, Given, Ticket};
 
-// The tickets from a place on.
-fn rest(tickets: &[Ticket], place: usize) -> &[Ticket]
-    requires { place ≤ length tickets.now }
-    ensures { result.now ≡ drop place tickets.now }
+// A list from a place on.
+pub(crate) fn rest<X>(list: &[X], place: usize) -> &[X]
+    requires { place ≤ length list.now }
+    ensures { result.now ≡ drop place list.now }
 {
-    &tickets[place..]
+    &list[place..]
 }
 
 // Gives an answer to a ticket, if it is open and one of those that it is for.
@@ -27,6 +30,56 @@ fn answer_if(ticket: &mut Ticket, whose: &Whose, at: u64, answer: Answer)
     if whose.is_due(ticket) {
         ticket.answered = Some(Given { at, answer });
     }
+}
+
+// Gives an answer to the ticket of a number, if it is open. It is found by halves.
+fn answer_number(tickets: &mut [Ticket], number: u64, at: u64, answer: Answer)
+    requires { are_ascending (map number_of tickets.old) ≡ true }
+    ensures { tickets.new ≡ map (answered_if (has_number number) at answer) tickets.old }
+{
+    let place = place_from(tickets, number);
+    if place < tickets.len() {
+        answer_if(&mut tickets[place], &Whose::Number(number), at, answer);
+    }
+}
+
+// Gives an answer to the open tickets of some numbers.
+fn answer_numbered(tickets: &mut [Ticket], numbers: &[u64], at: u64, answer: Answer)
+    requires { are_ascending (map number_of tickets.old) ≡ true }
+    ensures { tickets.new ≡ map (answered_if (is_among numbers.now) at answer) tickets.old }
+{
+    for number in numbers {
+        answer_number(tickets, *number, at, answer);
+    }
+}
+
+// The same in a list.
+pub(crate) fn answer_numbers(tickets: &mut Vec<Ticket>, numbers: &[u64], at: u64, answer: Answer)
+    requires { are_ascending (map number_of tickets.old.items) ≡ true }
+    ensures { tickets.new.items ≡ map (answered_if (is_among numbers.now) at answer) tickets.old.items }
+{
+    answer_numbered(tickets.as_mut_slice(), numbers, at, answer);
+}
+
+// Puts the numbers from a place on in order.
+fn sort_tail(numbers: &mut [u64], known: usize)
+    requires { known ≤ length numbers.old }
+    ensures front { take known numbers.new ≡ take known numbers.old }
+    ensures same { IsPermutation (drop known numbers.old) (drop known numbers.new) }
+    ensures sorted { IsSorted nat_cmp (drop known numbers.new) }
+{
+    numbers[known..].sort_unstable();
+}
+
+// The same in a list.
+pub(crate) fn sort_from(numbers: &mut Vec<u64>, known: usize)
+    requires { known ≤ length numbers.old.items }
+    ensures front { take known numbers.new.items ≡ take known numbers.old.items }
+    ensures same { IsPermutation (drop known numbers.old.items) (drop known numbers.new.items) }
+    ensures sorted { IsSorted nat_cmp (drop known numbers.new.items) }
+    ensures capacity { vec_capacity numbers.new ≡ vec_capacity numbers.old }
+{
+    sort_tail(numbers.as_mut_slice(), known);
 }
 
 // Gives an answer to each open ticket that it is for.
