@@ -1,9 +1,14 @@
 -- What entries do to kept rows that are whole.
-use Rattle.std.proofs.Common.{◌≡◌, ℕ, Bool, true, false, inl, inr, List, sym, ap, subst, ◌∙◌, Contains}
-use Rattle.std.specs.List.{list_any}
-use Rattle.mat_path.specs.Names.{overlap}
+use Rattle.std.proofs.Common.{◌≡◌, ℕ, Bool, true, false, not, inl, inr, List, ◌∷◌, Option, Some, None, refl, sym, ap, subst, ◌∙◌, Contains}
+use Rattle.std.specs.List.{filter, list_any}
+use Rattle.std.proofs.lemmas.Bool.{both_ways, false_from_ne_true}
+use Rattle.mat_path.specs.Covering.{is_other_path}
+use Rattle.mat_path.specs.Names.{overlap, same_names}
+use Rattle.mat_path.proofs.Elements.{contains_filter, contains_first}
+use Rattle.mat_path.proofs.Overlaps.{overlap-refl}
+use Rattle.mat_path.proofs.SameNames.{same_names-eq}
 use Rattle.mat_tree.specs.declared.flat.Flat.{Flat}
-use Rattle.mat_tree.specs.Parts.{HasTree, Part, below}
+use Rattle.mat_tree.specs.Parts.{HasTree, Part, below, replaced}
 use Rattle.mat_model.specs.declared.book.Row.{Row}
 use Rattle.mat_model.specs.declared.entries.Entry.{Entry}
 use Rattle.mat_model.specs.declared.entries.Event.TheVariants as event
@@ -11,19 +16,24 @@ use Rattle.mat_model.specs.declared.entries.Task.{Task}
 use Rattle.mat_model.specs.History.{Point, after, next_number}
 use Rattle.mat_model.specs.Kept.{KeptRow, kept_row, store_rows}
 use Rattle.mat_model.specs.Legal.{IsRecorded, IsReplied}
-use Rattle.mat_model.specs.WorkState.{is_above}
+use Rattle.mat_model.specs.WorkState.{Job, Lent, WorkState, is_above, path_of_task, running}
 use Rattle.model_laws.specs.KeptRules.{KeptAscend}
-use Rattle.model_laws.specs.StoredRules.{IsStoredOf}
-use Rattle.model_laws.specs.WorkRules.{IsWork}
+use Rattle.model_laws.specs.StoredRules.{IsStored, IsStoredOf, path_of_job}
+use Rattle.model_laws.specs.WorkRules.{IsWork, claimed_by_part, loans_of}
+use Rattle.model_laws.proofs.ClaimLemmas.{own_loans_apart, part_loan}
+use Rattle.model_laws.proofs.Coverings.{named_among}
 use Rattle.model_laws.proofs.KeptLemmas.{event_comes}
 use Rattle.model_laws.proofs.KeptOrder.{stored_cases}
 use Rattle.model_laws.proofs.RecordedStands.{record_stands}
-use Rattle.region_port.specs.Calls.{Paths}
+use Rattle.region_port.specs.Calls.{Paths, paths_below, paths_of_both}
 use Rattle.core_laws.specs.Covered.{IsCovered, IsRoughCovered}
-use Rattle.core_laws.specs.Loans.{AreLoans}
+use Rattle.core_laws.specs.Loans.{AreLoans, AreOut, given_back}
+use Rattle.core_laws.specs.Places.{IsBareBelow}
 use Rattle.core_laws.specs.Tied.{AreTied}
-use Rattle.core_laws.specs.Whole.{AreAgain, IsWhole, IsWholeRow}
+use Rattle.core_laws.specs.Whole.{AreAgain, HasLentTree, IsPartSettled, IsWhole, IsWholeRow, Regions, with_part, with_rough_part}
 use Rattle.core_laws.proofs.ImageLemmas.{standing_whole}
+use Rattle.core_laws.proofs.LoanLemmas.{give_out, is_running, lent_apart}
+use Rattle.core_laws.proofs.WholeLemmas.{lent_whole, task_whole}
 
 -- ---- kept rows that are others
 
@@ -80,3 +90,53 @@ entry_whole spoken point entry lent content rough asc replied counted rules are 
           rules are tied covered rough_covered by.among (record_stands point entry one replied counted by) (said by.row by.among)
           (record { path = sym (ap (λ (k : KeptRow). k.path) by.same); tree = sym (ap (λ (k : KeptRow). k.tree) by.same) })
     ]
+
+-- ---- all that is out for a job comes back
+
+-- two paths that are apart aren't the same
+differ : (p q : List (List ℕ)) → overlap p q ≡ false → same_names p q ≡ false
+differ p q apart =
+    false_from_ne_true (same_names p q)
+    (λ same. both_ways (overlap p q) apart (subst (λ (l : List (List ℕ)). overlap p l ≡ true) (same_names-eq p q same) (overlap-refl p)))
+
+pub gives_whole : (next number : ℕ) (rows : List Row) (work : WorkState) (lent : List (List (List ℕ))) (kept : List KeptRow) (job : Job)
+    (regions : Regions) (inner content : Part) (its part rough : Paths) → IsWork next rows work → IsStored rows work.jobs kept →
+    running number work ≡ Some job → AreLoans work.jobs lent → AreOut lent content rough → HasLentTree job.lent regions →
+    IsPartSettled job.lent part → IsWhole lent kept content rough →
+    IsWhole (given_back (loans_of job) lent) kept (with_part job.lent regions (replaced (path_of_job job) inner content))
+    (with_rough_part job.lent part (paths_of_both rough (paths_below (path_of_job job) its)))
+gives_whole next number rows work lent kept job regions inner content its part rough rules stored runs are out tree settled whole =
+    by job.lent refl tree settled
+  where
+    among : Contains work.jobs job
+    among = (is_running number work.jobs job runs).among
+
+    left : List (List (List ℕ))
+    left = filter (is_other_path (path_of_job job)) lent
+
+    other : Part
+    other = replaced (path_of_job job) inner content
+
+    others : Paths
+    others = paths_of_both rough (paths_below (path_of_job job) its)
+
+    task : IsWhole left kept other others
+    task = task_whole rows work.jobs lent kept job inner content its rough stored among whole
+
+    task_lent : Contains lent (path_of_job job)
+    task_lent =
+        are.out (path_of_job job)
+        (named_among loans_of work.jobs job (path_of_job job) among (contains_first (path_of_task job.task) (claimed_by_part job.lent)))
+
+    bare : (read : Lent) → job.lent ≡ Some read → IsBareBelow read.path other others
+    bare read is =
+        give_out lent (path_of_job job) inner content its rough (lent_apart next rows work lent rules are) task_lent out read.path
+        (contains_filter (is_other_path (path_of_job job)) lent read.path
+        (ap not (differ (path_of_job job) read.path (own_loans_apart next rows work job read rules among is)))
+        (are.out read.path (named_among loans_of work.jobs job read.path among (part_loan job read is))))
+
+    by : (o : Option Lent) → job.lent ≡ o → HasLentTree o regions → IsPartSettled o part →
+        IsWhole (given_back (path_of_task job.task ∷ claimed_by_part o) lent) kept (with_part o regions other) (with_rough_part o part others)
+    by None is has none = task
+    by (Some read) is has none =
+        lent_whole rows work.jobs left kept job read (regions read.path) other part others stored among is has none (bare read is) task

@@ -98,3 +98,8 @@ with_rough_part (Some part) its rough = paths_of_both rough (paths_below part.pa
 abbrev pub IsPartSettled : Option Lent → Paths → Type 0
 IsPartSettled None its = Unit {0}
 IsPartSettled (Some part) its = (path : List (List ℕ)) → is_prefix part.path path ≡ true → its path ≡ false
+
+-- and has the tree that its row had when the job began
+abbrev pub HasLentTree : Option Lent → Regions → Type 0
+HasLentTree None regions = Unit {0}
+HasLentTree (Some part) regions = HasTree (regions part.path) part.tree

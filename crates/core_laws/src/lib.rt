@@ -28,7 +28,8 @@ pub use disk_laws::{
     take_leaves_nothing, take_leaves_others,
 };
 pub use keep_laws::{
-    begin_keeps_whole, entry_keeps_whole, same_trees_are_whole, stored_rows_are_whole,
+    begin_keeps_whole, entry_keeps_whole, job_gives_keep_whole, same_trees_are_whole,
+    stored_rows_are_whole,
 };
 pub use loan_laws::{
     begin_keeps_loans, end_keeps_loans, fewer_loans_are_apart, free_path_is_not_lent,
