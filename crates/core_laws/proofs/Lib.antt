@@ -11,3 +11,4 @@ pub mod ImageLemmas
 pub mod KeepMoves
 pub mod OpeningLemmas
 pub mod CrashLemmas
+pub mod RuleMoves

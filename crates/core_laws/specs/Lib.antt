@@ -4,3 +4,4 @@ pub mod Places
 pub mod Sources
 pub mod Tied
 pub mod Whole
+pub mod DiskRules

@@ -1,0 +1,23 @@
+-- All that holds of a disk beside a point.
+use Rattle.std.specs.Prelude.{ℕ, Bool, List}
+use Rattle.mat_tree.specs.Parts.{Part}
+use Rattle.mat_model.specs.History.{Point}
+use Rattle.region_port.specs.Calls.{Paths}
+use Rattle.core_laws.specs.Covered.{IsCovered, IsRoughCovered}
+use Rattle.core_laws.specs.Loans.{AreLoans, AreOut}
+use Rattle.core_laws.specs.Tied.{AreTied}
+use Rattle.core_laws.specs.Whole.{IsWhole}
+
+-- a disk that lends some paths, with its rough paths, keeps its rules beside a point, where some stamps are spoken for
+pub record IsDisk (spoken : ℕ → Bool) (point : Point) (lent : List (List (List ℕ))) (content : Part) (rough : Paths) : Type 0 where
+  -- it lends the loans of the jobs
+  pub loans : AreLoans point.work.jobs lent
+  -- it has nothing where one is
+  pub out : AreOut lent content rough
+  -- each row that is home, and whose stamp is spoken for, has its tree
+  pub tied : AreTied spoken point.book.rows point.work.jobs content rough
+  -- each node, and each rough path, belongs to a row or is debris
+  pub covered : IsCovered point.book.rows point.work content
+  pub settled : IsRoughCovered point.work rough
+  -- each kept row is whole
+  pub whole : IsWhole lent point.kept content rough
