@@ -73,7 +73,7 @@ due_cons test x ts = by (is_due test x)
     by true = refl
     by false = refl
 
-due_append : (test : Ticket → Bool) (xs ys : List Ticket) → due_numbers test (xs ++ ys) ≡ due_numbers test xs ++ due_numbers test ys
+pub due_append : (test : Ticket → Bool) (xs ys : List Ticket) → due_numbers test (xs ++ ys) ≡ due_numbers test xs ++ due_numbers test ys
 due_append test xs ys = ap (map number_of) (filter-append (is_due test) xs ys) ∙ map-append number_of (filter (is_due test) xs) (filter (is_due test) ys)
 
 or_empty : (ns : List ℕ) → list_or_empty (some_list ns) ≡ ns
@@ -305,7 +305,7 @@ next_left test k ts d es within is stays =
     next = omega arith
 
 -- whether a ticket has another number
-abbrev is_else : ℕ → Ticket → Bool
+abbrev pub is_else : ℕ → Ticket → Bool
 is_else number ticket = is_other number ticket.number
 
 -- a number isn't among those of others
@@ -331,25 +331,25 @@ less_other a b less = let so = leb-true (suc a) b less in ap not (ne_eqb a b (λ
 more_other : (a b : ℕ) → nat_lt a b ≡ true → is_other a b ≡ true
 more_other a b less = let so = leb-true (suc a) b less in ap not (ne_eqb b a (λ same. absurd (omega (arith, so, same))))
 
-front_else : (xs ys : List Ticket) (d : Ticket) → are_ascending (map number_of (xs ++ (d ∷ ys))) ≡ true → list_all (is_else d.number) xs ≡ true
+pub front_else : (xs ys : List Ticket) (d : Ticket) → are_ascending (map number_of (xs ++ (d ∷ ys))) ≡ true → list_all (is_else d.number) xs ≡ true
 front_else [] ys d ascend = refl
 front_else (x ∷ xs) ys d ascend =
     let parts = and_parts (list_all (nat_lt x.number) (map number_of (xs ++ (d ∷ ys)))) (are_ascending (map number_of (xs ++ (d ∷ ys)))) ascend in
     and_from (is_else d.number x) (list_all (is_else d.number) xs) (less_other x.number d.number (last_less x.number xs ys d parts.0)) (front_else xs ys d parts.1)
 
-later_else : (n : ℕ) (ys : List Ticket) → list_all (nat_lt n) (map number_of ys) ≡ true → list_all (is_else n) ys ≡ true
+pub later_else : (n : ℕ) (ys : List Ticket) → list_all (nat_lt n) (map number_of ys) ≡ true → list_all (is_else n) ys ≡ true
 later_else n [] all = refl
 later_else n (y ∷ ys) all =
     let parts = and_parts (nat_lt n y.number) (list_all (nat_lt n) (map number_of ys)) all in
     and_from (is_else n y) (list_all (is_else n) ys) (more_other n y.number parts.0) (later_else n ys parts.1)
 
-back_else : (xs ys : List Ticket) (d : Ticket) → are_ascending (map number_of (xs ++ (d ∷ ys))) ≡ true → list_all (is_else d.number) ys ≡ true
+pub back_else : (xs ys : List Ticket) (d : Ticket) → are_ascending (map number_of (xs ++ (d ∷ ys))) ≡ true → list_all (is_else d.number) ys ≡ true
 back_else [] ys d ascend = later_else d.number ys (and_parts (list_all (nat_lt d.number) (map number_of ys)) (are_ascending (map number_of ys)) ascend).0
 back_else (x ∷ xs) ys d ascend =
     back_else xs ys d (and_parts (list_all (nat_lt x.number) (map number_of (xs ++ (d ∷ ys)))) (are_ascending (map number_of (xs ++ (d ∷ ys)))) ascend).1
 
 -- one goes that is open, and its number
-one_less : {Z : Type 0} (xs ys : List Ticket) (d : Ticket) (es rest : List (Entry (Vec ℕ Z))) → list_all (is_else d.number) xs ≡ true → list_all (is_else d.number) ys ≡ true
+pub one_less : {Z : Type 0} (xs ys : List Ticket) (d : Ticket) (es rest : List (Entry (Vec ℕ Z))) → list_all (is_else d.number) xs ≡ true → list_all (is_else d.number) ys ≡ true
     → is_open d ≡ true → IsIndexed (xs ++ (d ∷ ys)) es → ((at : List (List ℕ)) → items_at at rest ≡ items_less d.asked d.number at (items_at at es)) → IsIndexed (xs ++ ys) rest
 one_less xs ys d es rest front back still are less p = less p ∙ ap (items_less d.asked d.number p) (are p) ∙ by (same_names p d.asked) refl
   where

@@ -227,10 +227,10 @@ idle n at given q other (x ∷ ts) all =
     by true more = ap (λ xs. x ∷ xs) more
     by false more = ap (λ xs. x ∷ xs) more
 
-earlier_idle : (n : ℕ) (t : Ticket) → is_earlier n t ≡ true → has_number n t ≡ false
+pub earlier_idle : (n : ℕ) (t : Ticket) → is_earlier n t ≡ true → has_number n t ≡ false
 earlier_idle n t early = let less = leb-true (suc t.number) n early in ne_eqb t.number n (λ same. absurd (omega (arith, less, same)))
 
-later_idle : (n : ℕ) (t : Ticket) → nat_lt n t.number ≡ true → has_number n t ≡ false
+pub later_idle : (n : ℕ) (t : Ticket) → nat_lt n t.number ≡ true → has_number n t ≡ false
 later_idle n t late = let less = leb-true (suc n) t.number late in ne_eqb t.number n (λ same. absurd (omega (arith, less, same)))
 
 later_all : (n m : ℕ) (ts : List Ticket) → n ≤ m → list_all (nat_lt m) (map number_of ts) ≡ true → list_all (λ (t : Ticket). nat_lt n t.number) ts ≡ true
@@ -240,15 +240,11 @@ later_all n m (x ∷ ts) low all =
     let less = leb-true (suc m) x.number parts.0 in
     and_from (nat_lt n x.number) (list_all (λ (t : Ticket). nat_lt n t.number) ts) (le-leb (suc n) x.number (omega (arith, less, low))) (later_all n m ts low parts.1)
 
-back_idle : (n : ℕ) (at : ℕ) (given : Answer) (ts : List Ticket) (k : ℕ) (d : Ticket) → k < length ts → are_ascending (map number_of ts) ≡ true
-    → list_all (is_past n) (drop k ts) ≡ true → map (answered_if (has_number n) at given) (drop (k + 1) ts) ≡ drop (k + 1) ts
-back_idle n at given ts k d within ascend past =
-    idle n at given (λ (t : Ticket). nat_lt n t.number) (later_idle n) (drop (k + 1) ts)
-    (ap (λ i. list_all (λ (t : Ticket). nat_lt n t.number) (drop i ts)) next ∙ later_all n (get_or ts k d).number (drop (suc k) ts) low higher)
+-- those behind the place of a number have higher ones
+pub back_later : (n : ℕ) (ts : List Ticket) (k : ℕ) (d : Ticket) → k < length ts → are_ascending (map number_of ts) ≡ true
+    → list_all (is_past n) (drop k ts) ≡ true → list_all (λ (t : Ticket). nat_lt n t.number) (drop (suc k) ts) ≡ true
+back_later n ts k d within ascend past = later_all n (get_or ts k d).number (drop (suc k) ts) low higher
   where
-    next : k + 1 ≡ suc k
-    next = omega arith
-
     not_so : (b : Bool) → not b ≡ true → b ≡ false
     not_so true e = cc
     not_so false e = refl
@@ -262,6 +258,15 @@ back_idle n at given ts k d within ascend past =
     higher =
         (and_parts (list_all (nat_lt (get_or ts k d).number) (map number_of (drop (suc k) ts))) (are_ascending (map number_of (drop (suc k) ts)))
         (ap (λ xs. are_ascending (map number_of xs)) (sym (drop-cons ts k d within)) ∙ ascending_drop k ts ascend)).0
+
+back_idle : (n : ℕ) (at : ℕ) (given : Answer) (ts : List Ticket) (k : ℕ) (d : Ticket) → k < length ts → are_ascending (map number_of ts) ≡ true
+    → list_all (is_past n) (drop k ts) ≡ true → map (answered_if (has_number n) at given) (drop (k + 1) ts) ≡ drop (k + 1) ts
+back_idle n at given ts k d within ascend past =
+    idle n at given (λ (t : Ticket). nat_lt n t.number) (later_idle n) (drop (k + 1) ts)
+    (ap (λ i. list_all (λ (t : Ticket). nat_lt n t.number) (drop i ts)) next ∙ back_later n ts k d within ascend past)
+  where
+    next : k + 1 ≡ suc k
+    next = omega arith
 
 pub marked_at : (n : ℕ) (at : ℕ) (given : Answer) (ts : List Ticket) (k : ℕ) (old new : Ticket) → are_ascending (map number_of ts) ≡ true
     → list_all (is_earlier n) (take k ts) ≡ true → list_all (is_past n) (drop k ts) ≡ true → k < length ts → old ≡ get_or ts k old

@@ -117,7 +117,15 @@ impl TicketBook {
         requires open { list_any (is_due (has_number number)) self.old.all ≡ true }
         ensures { self.new ≡ answer_all (has_number number) at answer self.old }
     {
-        self.answer_all(&Whose::Number(number), at, answer);
+        by_path::drop_one(
+            &mut self.by_path,
+            self.alloc,
+            self.tickets.as_slice(),
+            number,
+        );
+        self.answered.push_reserved(number);
+        lists::answer_one(&mut self.tickets, number, at, answer);
+        self.done = lists::first_open(self.tickets.as_slice(), self.done);
     }
 
     /// The lowest number of an open ticket that asks for a path at or below this one.

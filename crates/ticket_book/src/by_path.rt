@@ -1,12 +1,14 @@
 ghost use Rattle.std.specs.Prelude.{◌≡◌, ◌+◌, ◌≤◌, ◌++◌, [], ◌∷◌, ℕ, List, false, true, is_ok, is_some, length, map, if◌then◌else◌};
-ghost use Rattle.std.specs.List.{filter};
+ghost use Rattle.std.specs.List.{filter, list_any};
 ghost use Rattle.std.specs.Vec.{vec_capacity};
 ghost use Rattle.mat_path.specs.Names.{same_names};
 ghost use Rattle.mat_model.specs.Books.{are_ascending, number_of};
 ghost use Rattle.path_trie.specs.Entries.{is_under, put, value_at};
+ghost use Rattle.ticket_book.specs.Asked.{has_number, is_due};
 ghost use Rattle.ticket_book.specs.ByPath.{IsIndexed, all_numbers, is_aside, is_left, is_other, items_at, items_less, items_with};
 ghost use Rattle.ticket_book.specs.Whose.{takes};
 
+use crate::lists::place_from;
 use crate::whose::Whose;
 use mat_model::Ticket;
 use mat_path::{Memory, Path};
@@ -96,6 +98,17 @@ pub(crate) fn drop_number(entries: &mut Trie<Vec<u64>>, alloc: Global, path: &Pa
         return;
     }
     put_back(entries, path, numbers);
+}
+
+// Takes the number of an open ticket away. The ticket is found by halves.
+pub(crate) fn drop_one(entries: &mut Trie<Vec<u64>>, alloc: Global, tickets: &[Ticket], number: u64)
+    requires indexed { IsIndexed tickets.now entries.old }
+    requires ascending { are_ascending (map number_of tickets.now) ≡ true }
+    requires there { list_any (is_due (has_number number)) tickets.now ≡ true }
+    ensures { IsIndexed (filter (is_left (has_number number)) tickets.now) entries.new }
+{
+    let place = place_from(tickets, number);
+    drop_number(entries, alloc, &tickets[place].asked, number);
 }
 
 // Takes the numbers of the open tickets away that an answer is for.

@@ -43,6 +43,14 @@ fn answer_number(tickets: &mut [Ticket], number: u64, at: u64, answer: Answer)
     }
 }
 
+// The same in a list.
+pub(crate) fn answer_one(tickets: &mut Vec<Ticket>, number: u64, at: u64, answer: Answer)
+    requires { are_ascending (map number_of tickets.old.items) ≡ true }
+    ensures { tickets.new.items ≡ map (answered_if (has_number number) at answer) tickets.old.items }
+{
+    answer_number(tickets.as_mut_slice(), number, at, answer);
+}
+
 // Gives an answer to the open tickets of some numbers.
 fn answer_numbered(tickets: &mut [Ticket], numbers: &[u64], at: u64, answer: Answer)
     requires { are_ascending (map number_of tickets.old) ≡ true }
@@ -187,7 +195,7 @@ fn lowest_from_in(tickets: &[Ticket], from: u64) -> Option<u64>
 }
 
 // The place of the first ticket whose number isn't below one, found by halves.
-fn place_from(tickets: &[Ticket], number: u64) -> usize
+pub(crate) fn place_from(tickets: &[Ticket], number: u64) -> usize
     requires { are_ascending (map number_of tickets.now) ≡ true }
     ensures within { result ≤ length tickets.now }
     ensures front { list_all (is_earlier number) (take result tickets.now) ≡ true }
