@@ -1,5 +1,5 @@
 -- Numbers that are taken out of order are put in order, and their tickets answered one by one.
-use Rattle.std.proofs.Common.{◌≡◌, ◌+◌, ◌<◌, ◌≤◌, ℕ, suc, nat_lt, nat_le, ◌==◌, Bool, true, false, not, ◌&&◌, ◌||◌, cond, List, [], ◌∷◌, ◌++◌, map, take, drop, get_or, slice_set, length, refl, ◌∙◌, sym, ap, arith, count_by}
+use Rattle.std.proofs.Common.{◌≡◌, ◌+◌, ◌<◌, ◌≤◌, ℕ, suc, nat_lt, nat_le, ◌==◌, Bool, true, false, not, ◌&&◌, ◌||◌, cond, List, [], ◌∷◌, ◌++◌, map, take, drop, get_or, slice_set, length, refl, ◌∙◌, sym, ap, arith, count_by, None}
 use Rattle.std.proofs.lemmas.Bool.{and_from, and_parts, eqb-true, eq-eqb, le-leb, leb-false, leb-true, ne_eqb}
 use Rattle.std.proofs.lemmas.List.{length-map, map-append, take-append-drop, take-append-le, take_all}
 use Rattle.std.proofs.lemmas.List.Edits.{map_over_more}
@@ -9,6 +9,7 @@ use Rattle.std.proofs.lemmas.List.Sums.{length-filter, sum_by-cons}
 use Rattle.std.proofs.Math.Seq.{drop-append_seam, drop-cons, take-suc}
 use Rattle.std.specs.List.{filter, list_all, list_any, sum_by}
 use Rattle.std.specs.List.Sorted.{IsNonDecreasingBy, IsPermutation, IsSorted}
+use Rattle.std.specs.Option.{option_map}
 use Rattle.std.specs.Ordering.{nat_cmp}
 use Rattle.std.specs.declared.vec.Vec.{Vec}
 use Rattle.mat_model.specs.declared.answers.Answer.{Answer}
@@ -17,8 +18,8 @@ use Rattle.mat_model.specs.Books.{are_ascending, number_of}
 use Rattle.mat_model.specs.Tickets.{is_open, with_answer}
 use Rattle.path_trie.specs.declared.entry.Entry.{Entry}
 use Rattle.path_trie.specs.Entries.{ascends, is_under}
-use Rattle.path_trie.proofs.Lists.{all_from, all_so}
-use Rattle.ticket_book.specs.Asked.{Tickets, answer_all, answered_if, asks_below, has_number, is_due, is_earlier, is_same}
+use Rattle.path_trie.proofs.Lists.{all_from, all_so, find_first, first_of}
+use Rattle.ticket_book.specs.Asked.{Tickets, answer_all, answered_if, asks_below, has_number, is_due, is_earlier, is_same, lowest}
 use Rattle.ticket_book.specs.Found.{is_past}
 use Rattle.ticket_book.specs.ByPath.{IsIndexed, all_numbers, due_numbers, is_among}
 use Rattle.ticket_book.proofs.AnswerLemmas.{numbers_cons, numbers_same}
@@ -299,6 +300,20 @@ row_size path es ts order are =
     ∙ ones (due_numbers (asks_below path) ts)
     ∙ length-map (filter (is_due (asks_below path)) ts) number_of
     ∙ length-filter (is_due (asks_below path)) ts
+
+-- where no entry is at or below a path, no ticket is due there
+pub row_none : {Z : Type 0} (path : List (List ℕ)) (es : List (Entry (Vec ℕ Z))) (ts : List Ticket) → ascends es ≡ true → IsIndexed ts es
+    → length (filter (is_under path) es) ≡ 0 → None ≡ lowest (asks_below path) ts
+row_none {Z} path es ts order are none =
+    sym
+    (ap (option_map number_of) (find_first (is_due (asks_below path)) ts)
+    ∙ ap (λ xs. option_map number_of (first_of xs)) (nothing_in (filter (is_due (asks_below path)) ts) (length-filter (is_due (asks_below path)) ts
+    ∙ sym (row_size path es ts order are)
+    ∙ ap (λ (xs : List (Entry (Vec ℕ Z))). length (all_numbers xs)) (nothing_in (filter (is_under path) es) none))))
+  where
+    nothing_in : {X : Type 0} (xs : List X) → length xs ≡ 0 → xs ≡ []
+    nothing_in [] e = refl
+    nothing_in (x ∷ xs) e = absurd (omega (arith, e))
 
 -- those that were taken, in order
 pub row_tail : {Z : Type 0} (path : List (List ℕ)) (es : List (Entry (Vec ℕ Z))) (ts : List Ticket) (old mid new : List ℕ) (k : ℕ) → ascends es ≡ true → IsIndexed ts es

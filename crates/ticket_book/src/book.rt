@@ -132,6 +132,10 @@ impl TicketBook {
     pub fn lowest_below(&self, path: &Path) -> Option<u64>
         ensures { result ≡ lowest (asks_below path.now) self.now.all }
     {
+        self.by_path.is_in_order();
+        if self.by_path.count_under(path) == 0 {
+            return None;
+        }
         lists::lowest(self.tickets.as_slice(), self.done, &Whose::Below(path))
     }
 
