@@ -15,7 +15,7 @@ use Rattle.mat_model.specs.Requests.{is_hold_of_other}
 use Rattle.path_trie.specs.declared.entry.Entry.{Entry}
 use Rattle.path_trie.specs.Entries.{put, value_at, without}
 use Rattle.holder_book.specs.Counts.{AreCounted, count_at, count_or_none, is_on, positive, with_one_less}
-use Rattle.holder_book.proofs.Values.{value_put, value_without}
+use Rattle.path_trie.proofs.Values.{value_put, value_without}
 
 -- ---- counting
 
