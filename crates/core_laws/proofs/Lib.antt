@@ -12,3 +12,4 @@ pub mod KeepMoves
 pub mod OpeningLemmas
 pub mod CrashLemmas
 pub mod RuleMoves
+pub mod BeginMoves

@@ -1,8 +1,9 @@
 -- All that holds of a disk beside a point.
-use Rattle.std.specs.Prelude.{ℕ, Bool, List}
-use Rattle.mat_tree.specs.Parts.{Part}
+use Rattle.std.specs.Prelude.{ℕ, Bool, List, Option, Some, None}
+use Rattle.mat_tree.specs.Parts.{Part, without}
 use Rattle.mat_model.specs.History.{Point}
-use Rattle.region_port.specs.Calls.{Paths}
+use Rattle.mat_model.specs.WorkState.{Lent}
+use Rattle.region_port.specs.Calls.{Paths, paths_outside}
 use Rattle.core_laws.specs.Covered.{IsCovered, IsRoughCovered}
 use Rattle.core_laws.specs.Loans.{AreLoans, AreOut}
 use Rattle.core_laws.specs.Tied.{AreTied}
@@ -21,3 +22,13 @@ pub record IsDisk (spoken : ℕ → Bool) (point : Point) (lent : List (List (Li
   pub settled : IsRoughCovered point.work rough
   -- each kept row is whole
   pub whole : IsWhole lent point.kept content rough
+
+-- a disk once the part that a job reads is taken, if it reads one
+abbrev pub less_part : Option Lent → Part → Part
+less_part None content = content
+less_part (Some part) content = without part.path content
+
+-- and its rough paths
+abbrev pub less_rough_part : Option Lent → Paths → Paths
+less_rough_part None rough = rough
+less_rough_part (Some part) rough = paths_outside part.path rough

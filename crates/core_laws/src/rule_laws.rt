@@ -1,19 +1,23 @@
-ghost use Rattle.std.specs.Prelude.{◌≡◌, ℕ, List, [], Bool, true, map};
+ghost use Rattle.std.specs.Prelude.{◌≡◌, ℕ, List, [], ◌∷◌, ◌++◌, Bool, true, map};
 ghost use Rattle.std.specs.List.{Contains};
-ghost use Rattle.mat_tree.specs.Parts.{Part};
+ghost use Rattle.mat_tree.specs.Parts.{Part, without};
+ghost use Rattle.mat_model.specs.declared.answers.Reply.TheVariants as reply;
 ghost use Rattle.mat_model.specs.declared.book.Row.{Row};
 ghost use Rattle.mat_model.specs.declared.entries.Entry.{Entry};
 ghost use Rattle.mat_model.specs.declared.entries.Event.TheVariants as event;
+ghost use Rattle.mat_model.specs.declared.entries.Task.{Task};
 ghost use Rattle.mat_model.specs.declared.opening.Opening.{Opening};
 ghost use Rattle.mat_model.specs.declared.requests.Asked.{Asked};
 ghost use Rattle.mat_model.specs.History.{Point, after, next_number, opened};
 ghost use Rattle.mat_model.specs.Legal.{IsRecorded, IsReplied};
 ghost use Rattle.mat_model.specs.Openings.{IsOpening, opening_rows, path_of_row};
+ghost use Rattle.mat_model.specs.WorkState.{lent_for, path_of_task};
+ghost use Rattle.model_laws.specs.KeptRules.{KeptAscend};
 ghost use Rattle.model_laws.specs.StoredRules.{IsStored};
-ghost use Rattle.model_laws.specs.WorkRules.{IsWork};
-ghost use Rattle.region_port.specs.Calls.{Paths};
+ghost use Rattle.model_laws.specs.WorkRules.{IsWork, claimed_by_part};
+ghost use Rattle.region_port.specs.Calls.{Paths, paths_outside};
 ghost use Rattle.region_port.specs.Strays.{AreTopmost, candidates};
-ghost use Rattle.core_laws.specs.DiskRules.{IsDisk};
+ghost use Rattle.core_laws.specs.DiskRules.{IsDisk, less_part, less_rough_part};
 ghost use Rattle.core_laws.specs.Places.{IsSameBelow};
 ghost use Rattle.core_laws.specs.Whole.{HaveLentTrees, IsImage, Regions};
 
@@ -31,6 +35,18 @@ pub fn request_keeps_disk()
         IsWork (next_number (after point entry)) (after point entry).book.rows (after point entry).work →
         ((row : Row) → Contains (after point entry).book.rows row → spoken row.stamp ≡ true) →
         IsDisk spoken point lent content rough → IsDisk spoken (after point entry) lent content rough }
+{}
+
+/// The begin of a job keeps them, once its task and then the part that it reads are taken.
+pub fn begin_keeps_disk()
+    ensures { (spoken : ℕ → Bool) (point : Point) (entry : Entry) (begun : Task) (lent : List (List (List ℕ))) (content : Part)
+        (rough : Paths) → KeptAscend point.kept → entry.event ≡ event.Begin begun → entry.reply ≡ reply.Started →
+        IsWork (next_number (after point entry)) (after point entry).book.rows (after point entry).work →
+        IsDisk spoken point lent content rough →
+        IsDisk spoken (after point entry)
+        (lent ++ path_of_task begun ∷ claimed_by_part (lent_for begun point.book.rows point.work.ways))
+        (less_part (lent_for begun point.book.rows point.work.ways) (without (path_of_task begun) content))
+        (less_rough_part (lent_for begun point.book.rows point.work.ways) (paths_outside (path_of_task begun) rough)) }
 {}
 
 /// A restart on an image keeps them: nothing is lost, its rows are the kept ones, and its strays are the topmost nodes that are apart from their paths.

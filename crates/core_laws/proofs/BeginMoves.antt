@@ -1,0 +1,152 @@
+-- The rules of a disk together, as a job begins and its loans are taken.
+use Rattle.std.proofs.Common.{◌≡◌, ℕ, Bool, List, [], ◌∷◌, ◌++◌, Option, Some, None, refl, sym, ap, subst, ◌∙◌, Contains}
+use Rattle.std.proofs.lemmas.List.{append_assoc}
+use Rattle.std.proofs.lemmas.List.Elements.{Contains-append_right}
+use Rattle.mat_path.proofs.Elements.{contains_first, contains_more}
+use Rattle.mat_tree.specs.Parts.{Part, without}
+use Rattle.mat_model.specs.declared.answers.Reply.{Reply}
+use Rattle.mat_model.specs.declared.answers.Reply.TheVariants as reply
+use Rattle.mat_model.specs.declared.book.Row.{Row}
+use Rattle.mat_model.specs.declared.entries.Entry.{Entry}
+use Rattle.mat_model.specs.declared.entries.Event.{Event}
+use Rattle.mat_model.specs.declared.entries.Event.TheVariants as event
+use Rattle.mat_model.specs.declared.entries.Task.{Task}
+use Rattle.mat_model.specs.declared.entries.Task.TheVariants as task
+use Rattle.mat_model.specs.History.{Point, after, answer, next_number, work_after}
+use Rattle.mat_model.specs.WorkState.{Job, Lent, WorkState, lent_for, path_of_task, started}
+use Rattle.model_laws.specs.KeptRules.{KeptAscend}
+use Rattle.model_laws.specs.WorkRules.{IsWork, claimed_by_part, loans, loans_of}
+use Rattle.model_laws.proofs.Coverings.{named_among}
+use Rattle.region_port.specs.Calls.{Paths, paths_outside}
+use Rattle.core_laws.specs.Covered.{AreKeptAside, AreNodesWithin, IsRoughWithin, node_places, rough_places}
+use Rattle.core_laws.specs.DiskRules.{IsDisk, less_part, less_rough_part}
+use Rattle.core_laws.specs.Loans.{AreLoans, AreOut}
+use Rattle.core_laws.specs.Tied.{AreTied}
+use Rattle.core_laws.specs.Whole.{IsWhole}
+use Rattle.core_laws.proofs.CoveredLemmas.{take_nodes, take_rough}
+use Rattle.core_laws.proofs.KeepMoves.{begin_whole}
+use Rattle.core_laws.proofs.LoanLemmas.{begin_loans, take_out}
+use Rattle.core_laws.proofs.PlacesLemmas.{begin_nodes, begin_rough}
+use Rattle.core_laws.proofs.TiedLemmas.{begin_tied, loan_clear, take_tied}
+use Rattle.core_laws.proofs.WholeLemmas.{take_whole}
+
+-- ---- the point
+
+abbrev begun_job : ℕ → ℕ → Task → List Row → WorkState → Job
+begun_job number caller begun rows work = record { number = number; caller = caller; task = begun; lent = lent_for begun rows work.ways }
+
+begun_jobs : (number caller : ℕ) (begun : Task) (rows : List Row) (work : WorkState) →
+    (started number caller begun rows work).jobs ≡ work.jobs ++ begun_job number caller begun rows work ∷ []
+begun_jobs number caller (task.Make path stamp) rows work = refl
+begun_jobs number caller (task.Wipe path) rows work = refl
+
+begun_nodes : (number caller : ℕ) (begun : Task) (rows : List Row) (work : WorkState) →
+    AreKeptAside (path_of_task begun) (node_places rows work) (node_places rows (started number caller begun rows work))
+begun_nodes number caller (task.Make path stamp) rows work = begin_nodes number caller path stamp rows work
+begun_nodes number caller (task.Wipe path) rows work = λ x aside most. most
+
+begun_rough : (number caller : ℕ) (begun : Task) (rows : List Row) (work : WorkState) →
+    AreKeptAside (path_of_task begun) (rough_places work) (rough_places (started number caller begun rows work))
+begun_rough number caller (task.Make path stamp) rows work = begin_rough number caller path stamp rows work
+begun_rough number caller (task.Wipe path) rows work = λ x aside most. most
+
+-- what a job that began has left: the same rows, and the work state with it
+record Begun (point : Point) (entry : Entry) (begun : Task) : Type 0 where
+  rows : (after point entry).book.rows ≡ point.book.rows
+  work : (after point entry).work ≡ started (next_number point) entry.by.caller begun point.book.rows point.work
+
+begun_point : (point : Point) (entry : Entry) (begun : Task) → entry.event ≡ event.Begin begun → entry.reply ≡ reply.Started → Begun point entry begun
+begun_point point entry begun is told = record {
+  rows =
+      subst (λ (e : Event). (answer point entry.now e entry.reply).book.rows ≡ point.book.rows) (sym is)
+      (subst (λ (r : Reply). (answer point entry.now (event.Begin begun) r).book.rows ≡ point.book.rows) (sym told) refl);
+  work =
+      subst (λ (e : Event). work_after point entry.by.caller e (answer point entry.now e entry.reply)
+      ≡ started (next_number point) entry.by.caller begun point.book.rows point.work) (sym is)
+      (subst (λ (r : Reply). work_after point entry.by.caller (event.Begin begun) (answer point entry.now (event.Begin begun) r)
+      ≡ started (next_number point) entry.by.caller begun point.book.rows point.work) (sym told) refl);
+}
+
+-- ---- takes
+
+-- what is true of a disk, and stays so as loans of a job are taken, is true once all of them are
+takes : (P : List (List (List ℕ)) → Part → Paths → Type 0) (o : Option Lent) (lent : List (List (List ℕ))) (t : List (List ℕ)) (content : Part)
+    (rough : Paths) → P lent content rough →
+    ((taken : List (List ℕ)) (some : List (List (List ℕ))) (part : Part) (its : Paths) → Contains (t ∷ claimed_by_part o) taken → P some part its →
+    P (some ++ taken ∷ []) (without taken part) (paths_outside taken its)) →
+    P (lent ++ t ∷ claimed_by_part o) (less_part o (without t content)) (less_rough_part o (paths_outside t rough))
+takes P None lent t content rough holds step = step t lent content rough (contains_first t []) holds
+takes P (Some part) lent t content rough holds step =
+    subst (λ (l : List (List (List ℕ))). P l (without part.path (without t content)) (paths_outside part.path (paths_outside t rough)))
+    (append_assoc lent (t ∷ []) (part.path ∷ []))
+    (step part.path (lent ++ t ∷ []) (without t content) (paths_outside t rough) (contains_more t (part.path ∷ []) part.path (contains_first part.path []))
+    (step t lent content rough (contains_first t (part.path ∷ [])) holds))
+
+part_nodes : (o : Option Lent) (places : List (List (List ℕ))) (content : Part) → AreNodesWithin places content → AreNodesWithin places (less_part o content)
+part_nodes None places content within = within
+part_nodes (Some part) places content within = take_nodes places places part.path content within (λ x aside most. most)
+
+part_rough : (o : Option Lent) (places : List (List (List ℕ))) (rough : Paths) → IsRoughWithin places rough → IsRoughWithin places (less_rough_part o rough)
+part_rough None places rough within = within
+part_rough (Some part) places rough within = take_rough places places part.path rough within (λ x aside most. most)
+
+pub begin_disk : (spoken : ℕ → Bool) (point : Point) (entry : Entry) (begun : Task) (lent : List (List (List ℕ))) (content : Part)
+    (rough : Paths) → KeptAscend point.kept → entry.event ≡ event.Begin begun → entry.reply ≡ reply.Started →
+    IsWork (next_number (after point entry)) (after point entry).book.rows (after point entry).work → IsDisk spoken point lent content rough →
+    IsDisk spoken (after point entry) (lent ++ path_of_task begun ∷ claimed_by_part (lent_for begun point.book.rows point.work.ways))
+    (less_part (lent_for begun point.book.rows point.work.ways) (without (path_of_task begun) content))
+    (less_rough_part (lent_for begun point.book.rows point.work.ways) (paths_outside (path_of_task begun) rough))
+begin_disk spoken point entry begun lent content rough asc is told rules disk = record {
+  loans = subst (λ (jobs : List Job). AreLoans jobs (lent ++ loans_of job)) (sym jobs_are) (begin_loans point.work.jobs job lent disk.loans);
+  out = takes AreOut part lent t content rough disk.out (λ taken some its_part its among held. take_out some taken its_part its held);
+  tied =
+      takes (λ some its_part its. AreTied spoken (after point entry).book.rows (after point entry).work.jobs its_part its) part lent t content rough tied
+      (λ taken some its_part its among held.
+      take_tied spoken (after point entry).book.rows (after point entry).work.jobs taken its_part its held
+      (loan_clear (next_number (after point entry)) (after point entry).book.rows (after point entry).work taken rules (ours taken among)));
+  covered =
+      subst (λ (rows : List Row). AreNodesWithin (node_places rows (after point entry).work) (less_part part (without t content))) (sym left.rows)
+      (subst (λ (work : WorkState). AreNodesWithin (node_places point.book.rows work) (less_part part (without t content))) (sym left.work)
+      (part_nodes part (node_places point.book.rows later) (without t content)
+      (take_nodes (node_places point.book.rows point.work) (node_places point.book.rows later) t content disk.covered
+      (begun_nodes (next_number point) entry.by.caller begun point.book.rows point.work))));
+  settled =
+      subst (λ (work : WorkState). IsRoughWithin (rough_places work) (less_rough_part part (paths_outside t rough))) (sym left.work)
+      (part_rough part (rough_places later) (paths_outside t rough)
+      (take_rough (rough_places point.work) (rough_places later) t rough disk.settled
+      (begun_rough (next_number point) entry.by.caller begun point.book.rows point.work)));
+  whole =
+      takes (λ some its_part its. IsWhole some (after point entry).kept its_part its) part lent t content rough
+      (begin_whole point entry begun lent content rough asc is disk.whole)
+      (λ taken some its_part its among held. take_whole some (after point entry).kept taken its_part its held);
+}
+  where
+    t : List (List ℕ)
+    t = path_of_task begun
+
+    part : Option Lent
+    part = lent_for begun point.book.rows point.work.ways
+
+    job : Job
+    job = begun_job (next_number point) entry.by.caller begun point.book.rows point.work
+
+    later : WorkState
+    later = started (next_number point) entry.by.caller begun point.book.rows point.work
+
+    left : Begun point entry begun
+    left = begun_point point entry begun is told
+
+    jobs_are : (after point entry).work.jobs ≡ point.work.jobs ++ job ∷ []
+    jobs_are = ap (λ (w : WorkState). w.jobs) left.work ∙ begun_jobs (next_number point) entry.by.caller begun point.book.rows point.work
+
+    tied : AreTied spoken (after point entry).book.rows (after point entry).work.jobs content rough
+    tied =
+        subst (λ (rows : List Row). AreTied spoken rows (after point entry).work.jobs content rough) (sym left.rows)
+        (subst (λ (jobs : List Job). AreTied spoken point.book.rows jobs content rough) (sym jobs_are)
+        (begin_tied spoken point.book.rows point.work.jobs job content rough disk.tied))
+
+    ours : (taken : List (List ℕ)) → Contains (loans_of job) taken → Contains (loans (after point entry).work.jobs) taken
+    ours taken among =
+        subst (λ (jobs : List Job). Contains (loans jobs) taken) (sym jobs_are)
+        (named_among loans_of (point.work.jobs ++ job ∷ []) job taken
+        (Contains-append_right point.work.jobs (job ∷ []) job (contains_first job [])) among)
