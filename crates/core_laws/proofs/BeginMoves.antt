@@ -1,9 +1,11 @@
 -- The rules of a disk together, as a job begins and its loans are taken.
-use Rattle.std.proofs.Common.{◌≡◌, ℕ, Bool, List, [], ◌∷◌, ◌++◌, Option, Some, None, refl, sym, ap, subst, ◌∙◌, Contains}
+use Rattle.std.proofs.Common.{◌≡◌, ℕ, Bool, true, false, ◌&&◌, cond, map, List, [], ◌∷◌, ◌++◌, Option, Some, None, refl, sym, ap, subst, ◌∙◌, Contains}
+use Rattle.std.specs.List.{filter, list_any}
 use Rattle.std.proofs.lemmas.List.{append_assoc}
 use Rattle.std.proofs.lemmas.List.Elements.{Contains-append_right}
 use Rattle.mat_path.proofs.Elements.{contains_first, contains_more}
 use Rattle.mat_tree.specs.Parts.{Part, without}
+use Rattle.mat_model.specs.declared.answers.FaultNote.{FaultNote}
 use Rattle.mat_model.specs.declared.answers.Reply.{Reply}
 use Rattle.mat_model.specs.declared.answers.Reply.TheVariants as reply
 use Rattle.mat_model.specs.declared.book.Row.{Row}
@@ -12,11 +14,17 @@ use Rattle.mat_model.specs.declared.entries.Event.{Event}
 use Rattle.mat_model.specs.declared.entries.Event.TheVariants as event
 use Rattle.mat_model.specs.declared.entries.Task.{Task}
 use Rattle.mat_model.specs.declared.entries.Task.TheVariants as task
-use Rattle.mat_model.specs.History.{Point, after, answer, next_number, work_after}
-use Rattle.mat_model.specs.WorkState.{Job, Lent, WorkState, lent_for, path_of_task, started}
+use Rattle.mat_model.specs.Gate.{Served}
+use Rattle.mat_model.specs.History.{Point, after, answer, is_keeper, kept_after, next_number, work_after}
+use Rattle.mat_model.specs.Kept.{KeptRow, overlaps_kept}
+use Rattle.mat_model.specs.Legal.{IsReplied}
+use Rattle.mat_model.specs.Openings.{path_of_row}
+use Rattle.mat_model.specs.Work.{refuse}
+use Rattle.mat_model.specs.WorkState.{Job, Lent, WorkState, lent_for, marked, path_of_task, refused, started}
 use Rattle.model_laws.specs.KeptRules.{KeptAscend}
-use Rattle.model_laws.specs.WorkRules.{IsWork, claimed_by_part, loans, loans_of}
-use Rattle.model_laws.proofs.Coverings.{named_among}
+use Rattle.model_laws.specs.WorkRules.{IsWork, claimed_by_part, is_on_disk, loans, loans_of}
+use Rattle.model_laws.proofs.Coverings.{named_among, paths-map}
+use Rattle.model_laws.proofs.WorkEnds.{marked-path}
 use Rattle.region_port.specs.Calls.{Paths, paths_outside}
 use Rattle.core_laws.specs.Covered.{AreKeptAside, AreNodesWithin, IsRoughWithin, node_places, rough_places}
 use Rattle.core_laws.specs.DiskRules.{IsDisk, less_part, less_rough_part}
@@ -150,3 +158,68 @@ begin_disk spoken point entry begun lent content rough asc is told rules disk = 
         subst (λ (jobs : List Job). Contains (loans jobs) taken) (sym jobs_are)
         (named_among loans_of (point.work.jobs ++ job ∷ []) job taken
         (Contains-append_right point.work.jobs (job ∷ []) job (contains_first job [])) among)
+
+-- ---- a begin that is refused
+
+-- what it has left: the same rows and kept rows, and a wipe's mark is gone
+record Kept (point : Point) (begun : Task) (served : Served) (caller : ℕ) : Type 0 where
+  rows : served.book.rows ≡ point.book.rows
+  work : work_after point caller (event.Begin begun) served ≡ refused begun point.work
+  kept : kept_after point (event.Begin begun) served ≡ point.kept
+
+refused_served : (point : Point) (begun : Task) (note : FaultNote) (caller : ℕ) (b : Bool) →
+    reply.Refused note ≡ (cond {A = Served} b (refuse (next_number point) begun note point.book) (record { reply = reply.Started; book = point.book })).reply →
+    Kept point begun (cond {A = Served} b (refuse (next_number point) begun note point.book) (record { reply = reply.Started; book = point.book })) caller
+refused_served point begun note caller true told = record { rows = refl; work = refl; kept = refl }
+refused_served point begun note caller false told = absurd cc
+
+refused_jobs : (begun : Task) (work : WorkState) → (refused begun work).jobs ≡ work.jobs
+refused_jobs (task.Make path stamp) work = refl
+refused_jobs (task.Wipe path) work = refl
+
+refused_nodes : (begun : Task) (rows : List Row) (work : WorkState) → node_places rows (refused begun work) ≡ node_places rows work
+refused_nodes (task.Make path stamp) rows work = refl
+refused_nodes (task.Wipe path) rows work =
+    ap (λ (ps : List (List (List ℕ))). map path_of_row (filter (is_on_disk work) rows) ++ ps) (paths-map (marked false path) (marked-path false path) work.debris)
+
+refused_rough : (begun : Task) (work : WorkState) → rough_places (refused begun work) ≡ rough_places work
+refused_rough (task.Make path stamp) work = refl
+refused_rough (task.Wipe path) work = ap (λ (ps : List (List (List ℕ))). work.dirty ++ ps) (paths-map (marked false path) (marked-path false path) work.debris)
+
+pub refused_disk : (spoken : ℕ → Bool) (point : Point) (entry : Entry) (begun : Task) (note : FaultNote) (lent : List (List (List ℕ)))
+    (content : Part) (rough : Paths) → IsReplied point entry → entry.event ≡ event.Begin begun → entry.reply ≡ reply.Refused note →
+    IsDisk spoken point lent content rough → IsDisk spoken (after point entry) lent content rough
+refused_disk spoken point entry begun note lent content rough replied is told disk =
+    subst (λ (e : Event). Goal e entry.reply) (sym is) (subst (λ (r : Reply). Goal (event.Begin begun) r) (sym told) base) replied
+  where
+    answered : Event → Reply → Served
+    answered e r = answer point entry.now e r
+
+    Goal : Event → Reply → Type 0
+    Goal e r = r ≡ (answer point entry.now e r).reply → IsDisk spoken (record {
+      history = point.history ++ entry ∷ [];
+      book = (answer point entry.now e r).book;
+      work = work_after point entry.by.caller e (answer point entry.now e r);
+      kept = kept_after point e (answer point entry.now e r);
+      nodes = (after point entry).nodes;
+    }) lent content rough
+
+    base : Goal (event.Begin begun) (reply.Refused note)
+    base said =
+        let left = refused_served point begun note entry.by.caller (is_keeper note.device && list_any (overlaps_kept (path_of_task begun)) point.kept) said in
+        let jobs = ap (λ (w : WorkState). w.jobs) left.work ∙ refused_jobs begun point.work in
+        record {
+          loans = subst (λ (js : List Job). AreLoans js lent) (sym jobs) disk.loans;
+          out = disk.out;
+          tied =
+              subst (λ (rows : List Row). AreTied spoken rows (work_after point entry.by.caller (event.Begin begun) (answered (event.Begin begun) (reply.Refused note))).jobs content rough) (sym left.rows)
+              (subst (λ (js : List Job). AreTied spoken point.book.rows js content rough) (sym jobs) disk.tied);
+          covered =
+              subst (λ (rows : List Row). AreNodesWithin (node_places rows (work_after point entry.by.caller (event.Begin begun) (answered (event.Begin begun) (reply.Refused note)))) content) (sym left.rows)
+              (subst (λ (w : WorkState). AreNodesWithin (node_places point.book.rows w) content) (sym left.work)
+              (subst (λ (ps : List (List (List ℕ))). AreNodesWithin ps content) (sym (refused_nodes begun point.book.rows point.work)) disk.covered));
+          settled =
+              subst (λ (w : WorkState). IsRoughWithin (rough_places w) rough) (sym left.work)
+              (subst (λ (ps : List (List (List ℕ))). IsRoughWithin ps rough) (sym (refused_rough begun point.work)) disk.settled);
+          whole = subst (λ (ks : List KeptRow). IsWhole lent ks content rough) (sym left.kept) disk.whole;
+        }

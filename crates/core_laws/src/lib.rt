@@ -46,7 +46,10 @@ pub use place_laws::{
     request_keeps_node_places, request_keeps_rough_places, returned_part_is_node_place,
 };
 pub use point_laws::{end_drops_job, end_leaves_rows, request_keeps_jobs, request_keeps_tied};
-pub use rule_laws::{begin_keeps_disk, request_keeps_disk, restart_keeps_disk, same_keeps_disk};
+pub use rule_laws::{
+    begin_keeps_disk, refused_begin_keeps_disk, request_keeps_disk, restart_keeps_disk,
+    same_keeps_disk,
+};
 pub use tied_laws::{
     away_row_is_clear, begin_keeps_clear, begin_keeps_tied, debris_is_clear, end_keeps_tied,
     fewer_spoken_are_tied, give_brings_tree, give_keeps_tied, loan_is_clear, read_row_is_away,

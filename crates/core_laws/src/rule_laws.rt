@@ -8,6 +8,7 @@ ghost use Rattle.mat_model.specs.declared.entries.Event.TheVariants as event;
 ghost use Rattle.mat_model.specs.declared.entries.Task.{Task};
 ghost use Rattle.mat_model.specs.declared.opening.Opening.{Opening};
 ghost use Rattle.mat_model.specs.declared.requests.Asked.{Asked};
+ghost use Rattle.mat_model.specs.declared.answers.FaultNote.{FaultNote};
 ghost use Rattle.mat_model.specs.History.{Point, after, next_number, opened};
 ghost use Rattle.mat_model.specs.Legal.{IsRecorded, IsReplied};
 ghost use Rattle.mat_model.specs.Openings.{IsOpening, opening_rows, path_of_row};
@@ -47,6 +48,13 @@ pub fn begin_keeps_disk()
         (lent ++ path_of_task begun ∷ claimed_by_part (lent_for begun point.book.rows point.work.ways))
         (less_part (lent_for begun point.book.rows point.work.ways) (without (path_of_task begun) content))
         (less_rough_part (lent_for begun point.book.rows point.work.ways) (paths_outside (path_of_task begun) rough)) }
+{}
+
+/// So does a begin that is refused, on a disk that is as it was.
+pub fn refused_begin_keeps_disk()
+    ensures { (spoken : ℕ → Bool) (point : Point) (entry : Entry) (begun : Task) (note : FaultNote) (lent : List (List (List ℕ)))
+        (content : Part) (rough : Paths) → IsReplied point entry → entry.event ≡ event.Begin begun → entry.reply ≡ reply.Refused note →
+        IsDisk spoken point lent content rough → IsDisk spoken (after point entry) lent content rough }
 {}
 
 /// A restart on an image keeps them: nothing is lost, its rows are the kept ones, and its strays are the topmost nodes that are apart from their paths.
