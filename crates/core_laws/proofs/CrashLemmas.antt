@@ -18,8 +18,7 @@ use Rattle.region_port.specs.Crashes.{Crashes}
 use Rattle.region_port.specs.declared.crash.Rest.{Rest}
 use Rattle.core_laws.specs.Whole.{IsImage, IsPartSettled, IsReturned, IsSpared, Regions, with_part, with_rough_part}
 use Rattle.core_laws.proofs.LoanLemmas.{IsRunning, is_running}
-use Rattle.core_laws.proofs.PlaceLemmas.{replaced_within}
-use Rattle.core_laws.proofs.WholeLemmas.{given_same, or_none, rough_same}
+use Rattle.core_laws.proofs.PlaceLemmas.{given_elsewhere, or_none, replaced_elsewhere, replaced_within}
 
 pub none_returned : (regions : Regions) (content : Part) (rough : Paths) → IsReturned [] regions content rough content rough
 none_returned regions content rough = record {
@@ -34,7 +33,7 @@ none_returned regions content rough = record {
 part_aside : (o : Option Lent) (regions : Regions) (content : Part) (path : List (List ℕ)) →
     ((part : Lent) → o ≡ Some part → is_prefix part.path path ≡ false) → with_part o regions content path ≡ content path
 part_aside None regions content path aside = refl
-part_aside (Some part) regions content path aside = given_same part.path path (regions part.path) content (aside part refl)
+part_aside (Some part) regions content path aside = replaced_elsewhere part.path path (regions part.path) content (aside part refl)
 
 -- and it isn't rough anywhere
 part_settled : (o : Option Lent) (its rough : Paths) (path : List (List ℕ)) → IsPartSettled o its → with_rough_part o its rough path ≡ rough path
@@ -44,7 +43,7 @@ part_settled (Some part) its rough path none = by (is_prefix part.path path) ref
     by : (b : Bool) → is_prefix part.path path ≡ b → paths_of_both rough (paths_below part.path its) path ≡ rough path
     by true over =
         ap (λ t. rough path || (is_prefix part.path path && t)) (none path over) ∙ ap (λ t. rough path || (t && false)) over ∙ or_none (rough path)
-    by false aside = rough_same part.path path its rough aside
+    by false aside = given_elsewhere part.path path its rough aside
 
 pub job_returned : (next number : ℕ) (rows : List Row) (work : WorkState) (job : Job) (regions : Regions) (inner content full : Part)
     (its part rough all : Paths) → IsWork next rows work → running number work ≡ Some job → IsPartSettled job.lent part →
@@ -55,12 +54,12 @@ job_returned next number rows work job regions inner content full its part rough
   disk = λ path tasks parts.
       rest.disk path (λ one among. tasks one (other one among)) (λ one lent among is. parts one lent (other one among) is)
       ∙ part_aside job.lent regions (replaced (path_of_job job) inner content) path (λ lent is. parts job lent run.among is)
-      ∙ given_same (path_of_job job) path inner content (tasks job run.among);
+      ∙ replaced_elsewhere (path_of_job job) path inner content (tasks job run.among);
   lent = λ one lent rel among is. by one lent rel among is (is_job number one) refl;
   as_rough = λ path tasks.
       rest.as_rough path (λ one among. tasks one (other one among))
       ∙ part_settled job.lent part (paths_of_both rough (paths_below (path_of_job job) its)) path settled
-      ∙ rough_same (path_of_job job) path its rough (tasks job run.among);
+      ∙ given_elsewhere (path_of_job job) path its rough (tasks job run.among);
 }
   where
     run : IsRunning number work.jobs job

@@ -1,12 +1,9 @@
 -- What entries do to kept rows that are whole.
 use Rattle.std.proofs.Common.{◌≡◌, ℕ, Bool, true, false, not, inl, inr, List, ◌∷◌, Option, Some, None, refl, sym, ap, subst, ◌∙◌, Contains}
 use Rattle.std.specs.List.{filter, list_any}
-use Rattle.std.proofs.lemmas.Bool.{both_ways, false_from_ne_true}
 use Rattle.mat_path.specs.Covering.{is_other_path}
-use Rattle.mat_path.specs.Names.{overlap, same_names}
+use Rattle.mat_path.specs.Names.{overlap}
 use Rattle.mat_path.proofs.Elements.{contains_filter, contains_first}
-use Rattle.mat_path.proofs.Overlaps.{overlap-refl}
-use Rattle.mat_path.proofs.SameNames.{same_names-eq}
 use Rattle.mat_tree.specs.declared.flat.Flat.{Flat}
 use Rattle.mat_tree.specs.Parts.{HasTree, Part, below, replaced}
 use Rattle.mat_model.specs.declared.book.Row.{Row}
@@ -32,7 +29,7 @@ use Rattle.core_laws.specs.Places.{IsBareBelow}
 use Rattle.core_laws.specs.Tied.{AreTied}
 use Rattle.core_laws.specs.Whole.{AreAgain, HasLentTree, IsPartSettled, IsWhole, IsWholeRow, Regions, with_part, with_rough_part}
 use Rattle.core_laws.proofs.ImageLemmas.{standing_whole}
-use Rattle.core_laws.proofs.LoanLemmas.{give_out, is_running, lent_apart}
+use Rattle.core_laws.proofs.LoanLemmas.{apart_differ, give_out, is_running, lent_apart}
 use Rattle.core_laws.proofs.WholeLemmas.{lent_whole, task_whole}
 
 -- ---- kept rows that are others
@@ -93,12 +90,6 @@ entry_whole spoken point entry lent content rough asc replied counted rules are 
 
 -- ---- all that is out for a job comes back
 
--- two paths that are apart aren't the same
-differ : (p q : List (List ℕ)) → overlap p q ≡ false → same_names p q ≡ false
-differ p q apart =
-    false_from_ne_true (same_names p q)
-    (λ same. both_ways (overlap p q) apart (subst (λ (l : List (List ℕ)). overlap p l ≡ true) (same_names-eq p q same) (overlap-refl p)))
-
 pub gives_whole : (next number : ℕ) (rows : List Row) (work : WorkState) (lent : List (List (List ℕ))) (kept : List KeptRow) (job : Job)
     (regions : Regions) (inner content : Part) (its part rough : Paths) → IsWork next rows work → IsStored rows work.jobs kept →
     running number work ≡ Some job → AreLoans work.jobs lent → AreOut lent content rough → HasLentTree job.lent regions →
@@ -132,7 +123,7 @@ gives_whole next number rows work lent kept job regions inner content its part r
     bare read is =
         give_out lent (path_of_job job) inner content its rough (lent_apart next rows work lent rules are) task_lent out read.path
         (contains_filter (is_other_path (path_of_job job)) lent read.path
-        (ap not (differ (path_of_job job) read.path (own_loans_apart next rows work job read rules among is)))
+        (ap not (apart_differ (path_of_job job) read.path (own_loans_apart next rows work job read rules among is)))
         (are.out read.path (named_among loans_of work.jobs job read.path among (part_loan job read is))))
 
     by : (o : Option Lent) → job.lent ≡ o → HasLentTree o regions → IsPartSettled o part →

@@ -95,7 +95,7 @@ is_running number jobs job is = record {
 }
 
 -- two paths that are apart aren't the same
-apart_differ : (p q : List (List ℕ)) → overlap p q ≡ false → same_names p q ≡ false
+pub apart_differ : (p q : List (List ℕ)) → overlap p q ≡ false → same_names p q ≡ false
 apart_differ p q apart =
     false_from_ne_true (same_names p q)
     (λ same. both_ways (overlap p q) apart (subst (λ (l : List (List ℕ)). overlap p l ≡ true) (same_names-eq p q same) (overlap-refl p)))

@@ -20,14 +20,16 @@ without_elsewhere t path content aside = ap (λ b. cond b None (content path)) a
 outside_elsewhere : (t path : List (List ℕ)) (rough : Paths) → is_prefix t path ≡ false → paths_outside t rough path ≡ rough path
 outside_elsewhere t path rough aside = ap (λ b. not b && rough path) aside
 
-replaced_elsewhere : (t path : List (List ℕ)) (inner content : Part) → is_prefix t path ≡ false → replaced t inner content path ≡ content path
+-- a give leaves what is at a path that isn't at or below its own
+pub replaced_elsewhere : (t path : List (List ℕ)) (inner content : Part) → is_prefix t path ≡ false → replaced t inner content path ≡ content path
 replaced_elsewhere t path inner content aside = ap (λ b. cond b (inner (drop (length t) path)) (content path)) aside
 
-or_none : (a : Bool) → (a || false) ≡ a
+pub or_none : (a : Bool) → (a || false) ≡ a
 or_none true = refl
 or_none false = refl
 
-given_elsewhere : (t path : List (List ℕ)) (its rough : Paths) → is_prefix t path ≡ false → paths_of_both rough (paths_below t its) path ≡ rough path
+-- and leaves it as rough
+pub given_elsewhere : (t path : List (List ℕ)) (its rough : Paths) → is_prefix t path ≡ false → paths_of_both rough (paths_below t its) path ≡ rough path
 given_elsewhere t path its rough aside = ap (λ b. rough path || (b && its path)) aside ∙ or_none (rough path)
 
 pub take_aside : (t n : List (List ℕ)) (content : Part) (rough : Paths) → overlap t n ≡ false →

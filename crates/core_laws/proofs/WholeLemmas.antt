@@ -1,5 +1,5 @@
 -- Kept rows that are whole, where rows go and come and parts are taken and given.
-use Rattle.std.proofs.Common.{◌≡◌, ℕ, Bool, true, false, not, ◌&&◌, ◌||◌, inl, inr, cond, List, [], ◌∷◌, ◌++◌, length, drop, Option, Some, None, refl, sym, ap, subst, ◌∙◌, Contains}
+use Rattle.std.proofs.Common.{◌≡◌, ℕ, Bool, true, false, not, ◌&&◌, ◌||◌, inl, inr, cond, List, [], ◌∷◌, ◌++◌, Option, Some, None, refl, sym, ap, subst, ◌∙◌, Contains}
 use Rattle.std.specs.List.{filter, list_any}
 use Rattle.std.specs.Option.{option_map}
 use Rattle.std.proofs.lemmas.Bool.{and_parts, both_ways, false_from_ne_true, not-true, or_left}
@@ -20,7 +20,7 @@ use Rattle.model_laws.proofs.StoredLemmas.{stored_no_task}
 use Rattle.region_port.specs.Calls.{Paths, paths_below, paths_of_both, paths_outside}
 use Rattle.core_laws.specs.Places.{IsBareBelow, IsSameBelow}
 use Rattle.core_laws.specs.Whole.{AreWholeOrKept, IsWhole, IsWholeRow}
-use Rattle.core_laws.proofs.PlaceLemmas.{give_aside, take_aside}
+use Rattle.core_laws.proofs.PlaceLemmas.{give_aside, given_elsewhere, replaced_elsewhere, take_aside}
 use Rattle.core_laws.proofs.TiedLemmas.{tree_given}
 
 pub stay_whole : (lent : List (List (List ℕ))) (kept left : List KeptRow) (content : Part) (rough : Paths) → IsWhole lent kept content rough →
@@ -111,18 +111,6 @@ take_whole lent kept taken content rough whole = λ one among. take_row lent tak
 
 -- ---- gives
 
--- what a give leaves at a path that isn't at or below its own
-pub given_same : (given path : List (List ℕ)) (inner content : Part) → is_prefix given path ≡ false → replaced given inner content path ≡ content path
-given_same given path inner content aside = ap (λ b. cond b (inner (drop (length given) path)) (content path)) aside
-
-pub or_none : (b : Bool) → (b || false) ≡ b
-or_none true = refl
-or_none false = refl
-
-pub rough_same : (given path : List (List ℕ)) (its rough : Paths) → is_prefix given path ≡ false →
-    paths_of_both rough (paths_below given its) path ≡ rough path
-rough_same given path its rough aside = ap (λ b. rough path || (b && its path)) aside ∙ or_none (rough path)
-
 -- a path that overlaps a place isn't at or below one that is apart from this
 apart_aside : (given path place : List (List ℕ)) → overlap given place ≡ false → overlap path place ≡ true → is_prefix given path ≡ false
 apart_aside given path place apart meet =
@@ -133,9 +121,9 @@ give_row : (lent : List (List (List ℕ))) (given : List (List ℕ)) (inner cont
     overlap given one.path ≡ false → IsWholeRow lent content rough one →
     IsWholeRow (filter (is_other_path given) lent) (replaced given inner content) (paths_of_both rough (paths_below given its)) one
 give_row lent given inner content its rough one apart whole = record {
-  settled = λ path meet. rough_same given path its rough (apart_aside given path one.path apart meet) ∙ whole.settled path meet;
+  settled = λ path meet. given_elsewhere given path its rough (apart_aside given path one.path apart meet) ∙ whole.settled path meet;
   top = λ path above.
-      given_same given path inner content
+      replaced_elsewhere given path inner content
       (false_from_ne_true (is_prefix given path) (λ over. both_ways (overlap given one.path) apart (above_meets given path one.path over above)))
       ∙ whole.top path above;
   tree = λ clear rel.
@@ -161,7 +149,7 @@ tree_row : (lent : List (List (List ℕ))) (given : List (List ℕ)) (nodes : Li
 tree_row lent given nodes inner content its rough one at tree none bare whole = record {
   settled = λ path meet. settled path (is_prefix given path) refl (whole.settled path meet);
   top = λ path above.
-      given_same given path inner content
+      replaced_elsewhere given path inner content
       (false_from_ne_true (is_prefix given path)
       (λ over. both_ways (is_above path one.path)
       (not_above path one.path (subst (λ (p : List (List ℕ)). is_prefix p path ≡ true) (sym at.path) over)) above))
@@ -174,7 +162,7 @@ tree_row lent given nodes inner content its rough one at tree none bare whole = 
   where
     settled : (path : List (List ℕ)) (b : Bool) → is_prefix given path ≡ b → rough path ≡ false → paths_of_both rough (paths_below given its) path ≡ false
     settled path true over is = ap (λ b. b || (is_prefix given path && its path)) is ∙ ap (λ b. b && its path) over ∙ none path over
-    settled path false aside is = rough_same given path its rough aside ∙ is
+    settled path false aside is = given_elsewhere given path its rough aside ∙ is
 
 pub lent_whole : (rows : List Row) (jobs : List Job) (lent : List (List (List ℕ))) (kept : List KeptRow) (job : Job) (part : Lent)
     (inner content : Part) (its rough : Paths) → IsStored rows jobs kept → Contains jobs job → job.lent ≡ Some part → HasTree inner part.tree →
