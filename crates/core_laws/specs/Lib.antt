@@ -5,3 +5,4 @@ pub mod Sources
 pub mod Tied
 pub mod Whole
 pub mod DiskRules
+pub mod Stored
