@@ -1,7 +1,10 @@
 ghost use Rattle.std.specs.Prelude.{◌≡◌, IfOk};
+ghost use Rattle.std.specs.List.{list_any};
+ghost use Rattle.mat_model.specs.Gate.{is_command, is_known};
 ghost use Rattle.gate_core.specs.Gates.{IsGate, count_left, enter, leave, no_gate, place_of, reply_of, waiter_at};
 
 use crate::lists::Lists;
+use crate::numbers::has;
 use mat_path::Memory;
 use std::alloc::Global;
 use std::marker::Model;
@@ -74,6 +77,20 @@ impl Gate {
         ensures { result ≡ place_of command self.now }
     {
         self.lists.place(command)
+    }
+
+    /// Whether a command is live or waits. Takes no memory.
+    pub fn is_known(&self, command: u32) -> bool
+        ensures { result ≡ is_known command self.now }
+    {
+        self.lists.is_known(command)
+    }
+
+    /// Whether a command is live. Takes no memory.
+    pub fn is_live(&self, command: u32) -> bool
+        ensures { result ≡ list_any (is_command command) self.now.live }
+    {
+        has(self.lists.live.as_slice(), command)
     }
 
     /// The live commands in order of admission. Takes no memory.
