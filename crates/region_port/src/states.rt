@@ -7,8 +7,9 @@ ghost use Rattle.region_port.specs.Reads.{IsWithin, Reads, got_failed, needs_pat
 ghost use Rattle.mat_io.specs.Watches.{FailsSo, after_call};
 
 use crate::got::Got;
+use crate::mem_region::MemRegion;
 use crate::port::Region;
-use mat_io::Did;
+use mat_io::{Arm, Did};
 use mat_path::{Path, Rel};
 use mat_tree::Tree;
 
@@ -238,5 +239,23 @@ impl<R: Region> ReadLoan<R> {
     {
         let ReadLoan { region, tree: _ } = self;
         region
+    }
+}
+
+impl ReadLoan<MemRegion> {
+    ghost use Rattle.mat_io.specs.Watches.{when_armed};
+    ghost use Rattle.region_port.specs.Memory.{is_region_armed, part_of, region_calls, region_faults, region_place, region_watch, rough_of};
+    ghost use Rattle.region_port.specs.States.{loan_region, loan_tree};
+
+    /// Makes the next call on the region fail and change nothing. Takes no memory.
+    pub fn arm(&mut self)
+        ensures armed { is_region_armed (loan_region self.new) ≡ true }
+        ensures calls { region_calls (loan_region self.new) ≡ region_calls (loan_region self.old) }
+        ensures watch { region_watch (loan_region self.new) ≡ when_armed (region_watch (loan_region self.old)) }
+        ensures tree { loan_tree self.new ≡ loan_tree self.old }
+        ensures place { region_place (loan_region self.new) ≡ region_place (loan_region self.old) }
+        ensures same { (part_of (loan_region self.new) ≡ part_of (loan_region self.old)) × (rough_of (loan_region self.new) ≡ rough_of (loan_region self.old)) × (region_faults (loan_region self.new) ≡ region_faults (loan_region self.old)) }
+    {
+        self.region.arm();
     }
 }

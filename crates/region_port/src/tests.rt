@@ -522,6 +522,11 @@ fn a_lent_part_is_read(rt: HostRuntime) -> Result<(), Fail> {
     );
     let got = loan.read_piece(&root, 1, 1);
     assert_eq!(rt; bytes_of(alloc, got)?.as_slice(), b"b".as_slice());
-    assert_eq!(rt; loan.into_region().calls(), 1);
+    loan.arm();
+    assert!(rt; matches!(loan.read_piece(&root, 0, 1), Got::Failed));
+    let got = loan.read_piece(&root, 2, 1);
+    assert_eq!(rt; bytes_of(alloc, got)?.as_slice(), b"c".as_slice());
+    let region = loan.into_region();
+    assert_eq!(rt; (region.calls(), Region::faults(&region)), (3, 1));
     Ok(())
 }
