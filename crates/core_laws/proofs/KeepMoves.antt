@@ -1,9 +1,8 @@
 -- What entries do to kept rows that are whole.
-use Rattle.std.proofs.Common.{◌≡◌, ℕ, Bool, true, false, not, inl, inr, List, ◌∷◌, Option, Some, None, refl, sym, ap, subst, ◌∙◌, Contains}
+use Rattle.std.proofs.Common.{◌≡◌, ℕ, Bool, true, false, inl, inr, List, ◌∷◌, Option, Some, None, refl, sym, ap, subst, ◌∙◌, Contains}
 use Rattle.std.specs.List.{filter, list_any}
 use Rattle.mat_path.specs.Covering.{is_other_path}
 use Rattle.mat_path.specs.Names.{overlap}
-use Rattle.mat_path.proofs.Elements.{contains_filter, contains_first}
 use Rattle.mat_tree.specs.declared.flat.Flat.{Flat}
 use Rattle.mat_tree.specs.Parts.{HasTree, Part, below, replaced}
 use Rattle.mat_model.specs.declared.book.Row.{Row}
@@ -17,8 +16,6 @@ use Rattle.mat_model.specs.WorkState.{Job, Lent, WorkState, is_above, path_of_ta
 use Rattle.model_laws.specs.KeptRules.{KeptAscend}
 use Rattle.model_laws.specs.StoredRules.{IsStored, IsStoredOf, path_of_job}
 use Rattle.model_laws.specs.WorkRules.{IsWork, claimed_by_part, loans_of}
-use Rattle.model_laws.proofs.ClaimLemmas.{own_loans_apart, part_loan}
-use Rattle.model_laws.proofs.Coverings.{named_among}
 use Rattle.model_laws.proofs.KeptLemmas.{event_comes}
 use Rattle.model_laws.proofs.KeptOrder.{stored_cases}
 use Rattle.model_laws.proofs.RecordedStands.{record_stands}
@@ -29,7 +26,7 @@ use Rattle.core_laws.specs.Places.{IsBareBelow}
 use Rattle.core_laws.specs.Tied.{AreTied}
 use Rattle.core_laws.specs.Whole.{AreAgain, HasLentTree, IsPartSettled, IsWhole, IsWholeRow, Regions, with_part, with_rough_part}
 use Rattle.core_laws.proofs.ImageLemmas.{standing_whole}
-use Rattle.core_laws.proofs.LoanLemmas.{apart_differ, give_out, is_running, lent_apart}
+use Rattle.core_laws.proofs.LoanLemmas.{give_out, is_running, lent_apart, part_lent, task_lent}
 use Rattle.core_laws.proofs.WholeLemmas.{lent_whole, task_whole}
 
 -- ---- kept rows that are others
@@ -114,17 +111,10 @@ gives_whole next number rows work lent kept job regions inner content its part r
     task : IsWhole left kept other others
     task = task_whole rows work.jobs lent kept job inner content its rough stored among whole
 
-    task_lent : Contains lent (path_of_job job)
-    task_lent =
-        are.out (path_of_job job)
-        (named_among loans_of work.jobs job (path_of_job job) among (contains_first (path_of_task job.task) (claimed_by_part job.lent)))
-
     bare : (read : Lent) → job.lent ≡ Some read → IsBareBelow read.path other others
     bare read is =
-        give_out lent (path_of_job job) inner content its rough (lent_apart next rows work lent rules are) task_lent out read.path
-        (contains_filter (is_other_path (path_of_job job)) lent read.path
-        (ap not (apart_differ (path_of_job job) read.path (own_loans_apart next rows work job read rules among is)))
-        (are.out read.path (named_among loans_of work.jobs job read.path among (part_loan job read is))))
+        give_out lent (path_of_job job) inner content its rough (lent_apart next rows work lent rules are) (task_lent work.jobs lent job are among) out
+        read.path (part_lent next rows work lent job read rules are among is)
 
     by : (o : Option Lent) → job.lent ≡ o → HasLentTree o regions → IsPartSettled o part →
         IsWhole (given_back (path_of_task job.task ∷ claimed_by_part o) lent) kept (with_part o regions other) (with_rough_part o part others)

@@ -13,3 +13,4 @@ pub mod OpeningLemmas
 pub mod CrashLemmas
 pub mod RuleMoves
 pub mod BeginMoves
+pub mod EndMoves

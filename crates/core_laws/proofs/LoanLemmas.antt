@@ -16,7 +16,7 @@ use Rattle.mat_tree.specs.Parts.{Node, Part, replaced, without}
 use Rattle.mat_model.specs.declared.book.Row.{Row}
 use Rattle.mat_model.specs.WorkState.{Job, Lent, WorkState, has_loan, is_job, is_lent, is_other_job, lends_at, path_of_task, running}
 use Rattle.model_laws.specs.WorkRules.{IsWork, claimed_by_part, loans, loans_of}
-use Rattle.model_laws.proofs.ClaimLemmas.{loans_apart, loans_once}
+use Rattle.model_laws.proofs.ClaimLemmas.{loans_apart, loans_once, own_loans_apart, part_loan}
 use Rattle.model_laws.proofs.Coverings.{among_named, named_among}
 use Rattle.model_laws.proofs.Elements.{found_contains, found_passes}
 use Rattle.model_laws.proofs.WorkBase.{same_job}
@@ -159,6 +159,20 @@ free_path jobs lent path are none =
 pub loan_lent : (jobs : List Job) (lent : List (List (List ℕ))) (job : Job) (loan : List (List ℕ)) → AreLoans jobs lent → Contains jobs job →
     Contains (loans_of job) loan → list_any (same_names loan) lent ≡ true
 loan_lent jobs lent job loan are among named = contains_among loan lent (are.out loan (named_among loans_of jobs job loan among named))
+
+-- the path of a job's task is lent
+pub task_lent : (jobs : List Job) (lent : List (List (List ℕ))) (job : Job) → AreLoans jobs lent → Contains jobs job → Contains lent (path_of_task job.task)
+task_lent jobs lent job are among =
+    are.out (path_of_task job.task)
+    (named_among loans_of jobs job (path_of_task job.task) among (contains_first (path_of_task job.task) (claimed_by_part job.lent)))
+
+-- and the part that it reads still is once that is given back
+pub part_lent : (next : ℕ) (rows : List Row) (work : WorkState) (lent : List (List (List ℕ))) (job : Job) (part : Lent) → IsWork next rows work →
+    AreLoans work.jobs lent → Contains work.jobs job → job.lent ≡ Some part → Contains (filter (is_other_path (path_of_task job.task)) lent) part.path
+part_lent next rows work lent job part rules are among is =
+    contains_filter (is_other_path (path_of_task job.task)) lent part.path
+    (ap not (apart_differ (path_of_task job.task) part.path (own_loans_apart next rows work job part rules among is)))
+    (are.out part.path (named_among loans_of work.jobs job part.path among (part_loan job part is)))
 
 -- ---- loans are apart
 

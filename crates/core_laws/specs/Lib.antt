@@ -5,4 +5,5 @@ pub mod Sources
 pub mod Tied
 pub mod Whole
 pub mod DiskRules
+pub mod Ends
 pub mod Stored

@@ -5,6 +5,7 @@ mod begin_laws;
 mod covered_laws;
 mod crash_laws;
 mod disk_laws;
+mod end_laws;
 mod keep_laws;
 mod loan_laws;
 mod opening_laws;
@@ -28,6 +29,7 @@ pub use disk_laws::{
     give_brings_part, give_leaves_others, same_keeps_bare, take_and_give_is_same,
     take_leaves_nothing, take_leaves_others,
 };
+pub use end_laws::{end_keeps_disk, job_gives_keep_disk, job_gives_keep_out, job_gives_keep_tied};
 pub use keep_laws::{
     begin_keeps_whole, entry_keeps_whole, job_gives_keep_whole, same_trees_are_whole,
     stored_rows_are_whole,
