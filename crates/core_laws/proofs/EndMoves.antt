@@ -1,8 +1,9 @@
 -- The rules of a disk together, as a job ends and its loans come back.
 use Rattle.std.proofs.Common.{◌≡◌, ℕ, Bool, true, false, inl, inr, List, ◌∷◌, Option, Some, None, refl, sym, ap, subst, ◌∙◌, Contains}
 use Rattle.std.specs.List.{filter}
+use Rattle.std.proofs.lemmas.Bool.{both_ways}
 use Rattle.mat_path.specs.Covering.{is_other_path}
-use Rattle.mat_path.specs.Names.{is_prefix}
+use Rattle.mat_path.specs.Names.{is_prefix, overlap}
 use Rattle.mat_path.proofs.Elements.{contains_first}
 use Rattle.mat_path.proofs.Overlaps.{overlap-sym}
 use Rattle.mat_tree.specs.declared.flat.Flat.{Flat}
@@ -15,20 +16,23 @@ use Rattle.mat_model.specs.declared.entries.Outcome.TheVariants as outcome
 use Rattle.mat_model.specs.declared.entries.Task.{Task}
 use Rattle.mat_model.specs.declared.entries.Task.TheVariants as task
 use Rattle.mat_model.specs.History.{Point, after, next_number}
+use Rattle.mat_model.specs.Kept.{KeptRow}
 use Rattle.mat_model.specs.Legal.{IsRecorded, IsReplied}
-use Rattle.mat_model.specs.WorkState.{Job, Lent, WorkState, path_of_task, running}
+use Rattle.mat_model.specs.Rows.{are_apart}
+use Rattle.mat_model.specs.WorkState.{Job, Lent, WorkState, is_other_job, path_of_task, running}
 use Rattle.model_laws.specs.RowRules.{IsSameRow}
-use Rattle.model_laws.specs.StoredRules.{IsStored, path_of_job}
+use Rattle.model_laws.specs.StoredRules.{IsStored, IsStoredOf, path_of_job}
 use Rattle.model_laws.specs.WorkRules.{IsMaking, IsWork, claimed_by_part, loans, loans_of}
 use Rattle.model_laws.proofs.ClaimLemmas.{own_loans_apart, part_loan}
 use Rattle.model_laws.proofs.Coverings.{named_among}
 use Rattle.model_laws.proofs.RowLemmas.{row_step}
+use Rattle.model_laws.proofs.StoredLemmas.{stored_dropped, stored_no_task}
 use Rattle.region_port.specs.Calls.{Paths, paths_below, paths_of_both}
 use Rattle.core_laws.specs.Covered.{AreNodesWithin, IsRoughWithin, node_places, rough_places}
 use Rattle.core_laws.specs.DiskRules.{IsDisk}
 use Rattle.core_laws.specs.Ends.{IsEndedPart, IsMadePart, IsReadBack, IsReadPart, IsReadSpoken, IsWipedPart, not_stored, with_job, with_rough_job}
 use Rattle.core_laws.specs.Loans.{AreLoans, AreOut, given_back}
-use Rattle.core_laws.specs.Tied.{AreTied, IsTreeAt}
+use Rattle.core_laws.specs.Tied.{AreTied, IsLeftBy, IsTreeAt}
 use Rattle.core_laws.specs.Whole.{HasLentTree, IsPartSettled, Regions, with_part, with_rough_part}
 use Rattle.core_laws.proofs.CoveredLemmas.{bare_nodes, give_nodes, give_rough, kept_nodes, kept_rough, settled_rough}
 use Rattle.core_laws.proofs.EndLemmas.{end_make_place, end_make_rough, end_nodes, end_part_place, end_rough, end_wipe_place}
@@ -253,6 +257,36 @@ gives_rough spoken point entry number out job lent regions inner content its par
     back None has = by job.task refl ended
     back (Some read) has =
         settled_rough places read.path part (paths_of_both rough (paths_below (path_of_job job) its)) (by job.task refl ended) (read_back read has).settled
+
+-- ---- kept rows
+
+pub unstored : (point : Point) (entry : Entry) (number : ℕ) (out : Outcome) (job : Job) → are_apart point.book.rows ≡ true →
+    IsStored point.book.rows point.work.jobs point.kept → entry.event ≡ event.Done number out → running number point.work ≡ Some job →
+    IsStored (not_stored point entry).book.rows (not_stored point entry).work.jobs (not_stored point entry).kept
+unstored point entry number out job apart stored is runs =
+    subst (λ (jobs : List Job). IsStored (after point entry).book.rows jobs point.kept) (sym (end_jobs point entry number out job is runs)) (record {
+      order = dropped.order;
+      once = dropped.once;
+      stands = λ one row among also stands meet. by one row among stands meet (end_rows point entry number out job row apart is runs also);
+      lent = dropped.lent;
+    })
+  where
+    dropped : IsStored point.book.rows (filter (is_other_job number) point.work.jobs) point.kept
+    dropped = stored_dropped point.book.rows point.work.jobs point.kept (is_other_job number) stored
+
+    by : (one : KeptRow) (row : Row) → Contains point.kept one → row.stands ≡ true → overlap one.path row.path ≡ true → IsLeftBy point.book.rows job row →
+        IsStoredOf one row.path row.tree
+    by one row among stands meet was =
+        elim was.stands [
+          | inl stays ↦
+              let of = stored.stands one was.old among was.among (sym stays ∙ stands)
+              (subst (λ (p : List (List ℕ)). overlap one.path p ≡ true) was.same.path meet) in
+              record { path = of.path ∙ sym was.same.path; tree = of.tree ∙ sym was.same.tree }
+          | inr makes ↦
+              absurd (both_ways (overlap one.path row.path)
+              (subst (λ (t : Task). overlap one.path (path_of_task t) ≡ false) makes
+              (stored_no_task point.book.rows point.work.jobs point.kept one job stored among (is_running number point.work.jobs job runs).among)) meet)
+        ]
 
 -- ---- all rules
 

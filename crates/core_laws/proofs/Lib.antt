@@ -14,3 +14,4 @@ pub mod CrashLemmas
 pub mod RuleMoves
 pub mod BeginMoves
 pub mod EndMoves
+pub mod ImageMoves

@@ -174,6 +174,12 @@ part_lent next rows work lent job part rules are among is =
     (ap not (apart_differ (path_of_task job.task) part.path (own_loans_apart next rows work job part rules among is)))
     (are.out part.path (named_among loans_of work.jobs job part.path among (part_loan job part is)))
 
+pub part_still_lent : (next : ℕ) (rows : List Row) (work : WorkState) (lent : List (List (List ℕ))) (job : Job) (part : Lent) → IsWork next rows work →
+    AreLoans work.jobs lent → Contains work.jobs job → job.lent ≡ Some part →
+    list_any (same_names part.path) (filter (is_other_path (path_of_task job.task)) lent) ≡ true
+part_still_lent next rows work lent job part rules are among is =
+    contains_among part.path (filter (is_other_path (path_of_task job.task)) lent) (part_lent next rows work lent job part rules are among is)
+
 -- ---- loans are apart
 
 pub lent_apart : (next : ℕ) (rows : List Row) (work : WorkState) (lent : List (List (List ℕ))) → IsWork next rows work → AreLoans work.jobs lent →

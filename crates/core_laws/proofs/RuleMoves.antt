@@ -81,6 +81,12 @@ request_disk spoken point entry request lent content rough rules stored replied 
         kept_rough (loans point.work.jobs) (rough_places point.work) (rough_places (after point entry).work) content rough
         (jobs_out point.work.jobs lent content rough disk.loans disk.out) (request_rough point entry request rules is) disk.settled
 
+pub disk_image : (spoken : ℕ → Bool) (point : Point) (lent : List (List (List ℕ))) (regions : Regions) (content image : Part) (rough later : Paths) →
+    IsStored point.book.rows point.work.jobs point.kept → IsDisk spoken point lent content rough → HaveLentTrees point.work.jobs regions →
+    IsImage point.work.jobs regions content rough image later → IsWhole [] point.kept image later
+disk_image spoken point lent regions content image rough later stored disk trees left =
+    image_whole point.book.rows point.work.jobs lent point.kept regions content image rough later stored disk.loans trees disk.whole left
+
 pub restart_disk : (spoken still : ℕ → Bool) (point : Point) (opening : Opening) (lent known : List (List (List ℕ))) (regions : Regions)
     (content image : Part) (rough later : Paths) → IsStored point.book.rows point.work.jobs point.kept → IsDisk spoken point lent content rough →
     HaveLentTrees point.work.jobs regions → IsImage point.work.jobs regions content rough image later → IsOpening opening → opening.lost ≡ [] →
@@ -99,5 +105,5 @@ restart_disk spoken still point opening lent known regions content image rough l
     whole : IsWhole [] (opened opening).kept image later
     whole =
         again_whole [] point.kept (opened opening).kept image later
-        (image_whole point.book.rows point.work.jobs lent point.kept regions content image rough later stored disk.loans trees disk.whole left)
+        (disk_image spoken point lent regions content image rough later stored disk trees left)
         (opening_again opening [] point.kept rows)

@@ -7,6 +7,7 @@ ghost use Rattle.mat_model.specs.declared.entries.Event.TheVariants as event;
 ghost use Rattle.mat_model.specs.declared.entries.Outcome.{Outcome};
 ghost use Rattle.mat_model.specs.History.{Point, after, next_number};
 ghost use Rattle.mat_model.specs.Legal.{IsRecorded, IsReplied};
+ghost use Rattle.mat_model.specs.Rows.{are_apart};
 ghost use Rattle.mat_model.specs.WorkState.{Job, WorkState, running};
 ghost use Rattle.model_laws.specs.StoredRules.{IsStored};
 ghost use Rattle.model_laws.specs.WorkRules.{IsWork, loans_of};
@@ -50,6 +51,13 @@ pub fn job_gives_keep_disk()
         IsDisk spoken point lent content rough →
         IsDisk spoken (not_stored point entry) (given_back (loans_of job) lent) (with_job job inner regions content)
         (with_rough_job job its part rough) }
+{}
+
+/// It keeps the rules of the kept rows so long, too.
+pub fn job_gives_keep_stored()
+    ensures { (point : Point) (entry : Entry) (number : ℕ) (out : Outcome) (job : Job) → are_apart point.book.rows ≡ true →
+        IsStored point.book.rows point.work.jobs point.kept → entry.event ≡ event.Done number out → running number point.work ≡ Some job →
+        IsStored (not_stored point entry).book.rows (not_stored point entry).work.jobs (not_stored point entry).kept }
 {}
 
 /// It keeps them once that is stored too: what it stores is the row that it made, which stands.

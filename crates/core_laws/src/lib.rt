@@ -6,6 +6,7 @@ mod covered_laws;
 mod crash_laws;
 mod disk_laws;
 mod end_laws;
+mod image_laws;
 mod keep_laws;
 mod loan_laws;
 mod opening_laws;
@@ -29,14 +30,19 @@ pub use disk_laws::{
     give_brings_part, give_leaves_others, same_keeps_bare, take_and_give_is_same,
     take_leaves_nothing, take_leaves_others,
 };
-pub use end_laws::{end_keeps_disk, job_gives_keep_disk, job_gives_keep_out, job_gives_keep_tied};
+pub use end_laws::{
+    end_keeps_disk, job_gives_keep_disk, job_gives_keep_out, job_gives_keep_stored,
+    job_gives_keep_tied,
+};
+pub use image_laws::{disk_image_is_whole, given_task_image_is_whole, taken_task_image_is_whole};
 pub use keep_laws::{
     begin_keeps_whole, entry_keeps_whole, job_gives_keep_whole, same_trees_are_whole,
     stored_rows_are_whole,
 };
 pub use loan_laws::{
     begin_keeps_loans, end_keeps_loans, fewer_loans_are_apart, free_path_is_not_lent,
-    give_keeps_out, loan_is_lent, loans_are_out, loans_lie_apart, nothing_is_lent, take_keeps_out,
+    give_keeps_out, loan_is_lent, loans_are_out, loans_lie_apart, nothing_is_lent,
+    read_part_is_still_lent, take_keeps_out,
 };
 pub use opening_laws::{
     nothing_is_out, opening_is_covered, opening_is_tied, opening_keeps_again, settled_is_within,

@@ -4,7 +4,8 @@ ghost use Rattle.mat_path.specs.Covering.{is_other_path};
 ghost use Rattle.mat_path.specs.Names.{overlap, same_names};
 ghost use Rattle.mat_tree.specs.Parts.{Part, replaced, without};
 ghost use Rattle.mat_model.specs.declared.book.Row.{Row};
-ghost use Rattle.mat_model.specs.WorkState.{Job, WorkState, is_lent, is_other_job, running};
+ghost use Rattle.mat_model.specs.WorkState.{Job, Lent, WorkState, is_lent, is_other_job, running};
+ghost use Rattle.model_laws.specs.StoredRules.{path_of_job};
 ghost use Rattle.model_laws.specs.WorkRules.{IsWork, loans, loans_of};
 ghost use Rattle.region_port.specs.Calls.{Paths, paths_below, paths_of_both, paths_outside};
 ghost use Rattle.core_laws.specs.Loans.{AreLoans, AreLoansApart, AreOut, given_back};
@@ -37,6 +38,13 @@ pub fn free_path_is_not_lent()
 pub fn loan_is_lent()
     ensures { (jobs : List Job) (lent : List (List (List ℕ))) (job : Job) (loan : List (List ℕ)) → AreLoans jobs lent →
         Contains jobs job → Contains (loans_of job) loan → list_any (same_names loan) lent ≡ true }
+{}
+
+/// So may the part that a job reads, once its task's part is given back.
+pub fn read_part_is_still_lent()
+    ensures { (next : ℕ) (rows : List Row) (work : WorkState) (lent : List (List (List ℕ))) (job : Job) (part : Lent) →
+        IsWork next rows work → AreLoans work.jobs lent → Contains work.jobs job → job.lent ≡ Some part →
+        list_any (same_names part.path) (filter (is_other_path (path_of_job job)) lent) ≡ true }
 {}
 
 /// The disk's loans are apart.
