@@ -1,0 +1,134 @@
+ghost use Rattle.std.specs.Prelude.{◌≡◌, ◌+◌, ◌≤◌, ◌<◌, [], true, find, length, Option, Some, None};
+ghost use Rattle.std.specs.List.{list_any};
+ghost use Rattle.std.specs.Option.{option_copied, option_map};
+ghost use Rattle.mat_model.specs.Rows.{are_apart, cover, is_at_path, overlaps_row};
+ghost use Rattle.row_book.specs.Stocks.{covers_stock, held_bytes, is_next_overlap, is_past, overlaps_stock, row_of, rows_of, stock_at};
+
+use crate::finds::{
+    if_covering, if_past, stock_above, stock_at, stock_behind, stock_leading, stock_under,
+};
+use crate::stock::Stock;
+use mat_path::Path;
+use path_trie::{Steps, Trie};
+use std::alloc::Global;
+use std::marker::{Brand, Model};
+use std::sync::ledger::{Blank, Ledger};
+
+/// The rows in order of path, of which no two overlap, each with what is kept beside it.
+#[derive(Debug, Drop)]
+pub struct RowBook {
+    // At each row's path its stock; None stands there only while a stock is changed.
+    trie: Trie<Option<Stock>>,
+    // How many bytes are held for all rows.
+    held: u64,
+}
+
+impl Model for RowBook {
+    ghost use Rattle.std.specs.Prelude.{List};
+    ghost use Rattle.row_book.specs.declared.stock.Stock.{Stock as TheStock};
+    ghost use Rattle.row_book.specs.Whole.{stocks_of, IsWhole};
+
+    ghost Value = { List TheStock };
+
+    ghost view = { λ book. stocks_of book.trie };
+
+    ghost invariant = { λ book. IsWhole book.trie book.held };
+}
+
+impl RowBook {
+    /// The book of no row. Takes no memory.
+    pub fn new(alloc: Global) -> RowBook
+        ensures { result ≡ [] }
+    {
+        RowBook {
+            trie: Trie::new(alloc),
+            held: 0,
+        }
+    }
+
+    /// How many rows there are.
+    pub fn len(&self) -> usize
+        ensures { result ≡ length self.now }
+    {
+        self.trie.len()
+    }
+
+    /// How many bytes are held for all rows: a number that is kept, and not counted afresh.
+    pub fn held_bytes(&self) -> u64
+        ensures { result ≡ held_bytes self.now }
+    {
+        self.held
+    }
+
+    /// The law of the list: its rows are in strict order of path, and no two overlap. It does nothing.
+    pub fn is_in_order(&self)
+        ensures { are_apart (rows_of self.now) ≡ true }
+    {
+        let _trie = &self.trie;
+    }
+
+    /// The stock at exactly a path. Takes no memory, as the calls below.
+    pub fn get(&self, path: &Path) -> Option<&Stock>
+        ensures stock { option_copied result ≡ find (stock_at path.now) self.now }
+        ensures row { option_map row_of (option_copied result) ≡ find (is_at_path path.now) (rows_of self.now) }
+    {
+        stock_at(&self.trie, path)
+    }
+
+    /// The stock whose row covers a path.
+    ///
+    /// A step is one node visited: at most one more than the path has names.
+    pub fn cover<L: Ledger>(&self, path: &Path, steps: &mut Steps<L>) -> Option<&Stock>
+        ensures stock { option_copied result ≡ find (covers_stock path.now) self.now }
+        ensures row { option_map row_of (option_copied result) ≡ cover (rows_of self.now) path.now }
+        ensures most { steps.new ≤ steps.old + length path.now + 1 }
+        ensures least { steps.old + 1 ≤ steps.new }
+    {
+        if_covering(stock_leading(&self.trie, path, steps), path)
+    }
+
+    // The same, its steps counted in a ledger of its own.
+    fn cover_in<L: Ledger>(&self, path: &Path, blank: Blank) -> Option<&Stock>
+        requires name { blank.name ≡ L.name }
+        requires parts { blank.parts ≡ L.parts }
+        requires some { 0 < L.parts }
+        ensures stock { option_copied result ≡ find (covers_stock path.now) self.now }
+        ensures row { option_map row_of (option_copied result) ≡ cover (rows_of self.now) path.now }
+    {
+        let mut steps: Steps<L> = Steps::new(blank);
+        self.cover(path, &mut steps)
+    }
+
+    /// The stock whose row covers a path, where nobody reads the steps.
+    pub fn cover_free(&self, path: &Path) -> Option<&Stock>
+        ensures stock { option_copied result ≡ find (covers_stock path.now) self.now }
+        ensures row { option_map row_of (option_copied result) ≡ cover (rows_of self.now) path.now }
+    {
+        self.cover_in::<Brand>(path, Blank::new(1))
+    }
+
+    /// Whether some row overlaps a path.
+    pub fn overlaps(&self, path: &Path) -> bool
+        ensures { result ≡ list_any (overlaps_row path.now) (rows_of self.now) }
+    {
+        self.trie.overlaps(path)
+    }
+
+    /// The first stock in order of path whose row overlaps a path, behind another path, if one is given: with the path of the row that
+    /// was found last a caller walks on.
+    pub fn overlapping_from(&self, path: &Path, last: Option<&Path>) -> Option<&Stock>
+        ensures { option_copied result ≡ find (is_next_overlap path.now (option_map (λ path. path.now) last.entry)) self.now }
+    {
+        match stock_above(&self.trie, path) {
+            Some(stock) => if_past(stock, last),
+            None => stock_under(&self.trie, path, last),
+        }
+    }
+
+    /// The first stock in order of path, behind a path, if one is given.
+    pub fn first_behind(&self, last: Option<&Path>) -> Option<&Stock>
+        ensures { option_copied result ≡ find (is_past (option_map (λ path. path.now) last.entry)) self.now }
+    {
+        stock_behind(&self.trie, last)
+    }
+}

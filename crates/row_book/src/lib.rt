@@ -1,0 +1,11 @@
+//! Floor of books: the rows, each with where its bytes come from and whether its last make failed.
+#![tactic(auto)]
+
+mod book;
+mod finds;
+mod laws;
+mod stock;
+
+pub use book::RowBook;
+pub use laws::{changes_are_in_step, rows_are_in_step};
+pub use stock::Stock;
