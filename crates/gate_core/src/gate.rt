@@ -1,4 +1,4 @@
-ghost use Rattle.std.specs.Prelude.{◌≡◌, IfOk};
+ghost use Rattle.std.specs.Prelude.{◌≡◌, IfOk, length};
 ghost use Rattle.std.specs.List.{list_any};
 ghost use Rattle.mat_model.specs.Gate.{is_command, is_known};
 ghost use Rattle.gate_core.specs.Gates.{IsGate, count_left, enter, leave, no_gate, place_of, reply_of, waiter_at};
@@ -112,6 +112,13 @@ impl Gate {
         ensures { result ≡ self.now.state }
     {
         self.lists.state
+    }
+
+    /// How many commands wait. Takes no memory.
+    pub fn waiting_count(&self) -> u64
+        ensures { result ≡ length self.now.waiting }
+    {
+        self.lists.waiting.len() as u64
     }
 
     /// The command that waits at a place of the queue, from 1, and the state that it asks for. Takes no memory.
