@@ -44,6 +44,6 @@ HasDiskRisen count (Some note) = note.device ≡ device.Disk → 1 ≤ count
 -- the counts of the state store and of the disk are not behind a history
 pub record AreCounted (history : List Entry) (keeper disk : ℕ) : Type 0 where
   -- that of the state store is at least the last one that a reply told of it
-  pub keeper : count_behind 0 history ≤ keeper
+  pub notes : count_behind 0 history ≤ keeper
   -- that of the disk isn't 0 where a job ended with a failure of the disk
-  pub disk : (entry : Entry) → Contains history entry → HasDiskRisen disk (note_of_end entry.event)
+  pub ends : (entry : Entry) → Contains history entry → HasDiskRisen disk (note_of_end entry.event)
