@@ -27,7 +27,7 @@ use Rattle.model_laws.proofs.Coverings.{named_among, paths-map}
 use Rattle.model_laws.proofs.WorkEnds.{marked-path}
 use Rattle.region_port.specs.Calls.{Paths, paths_outside}
 use Rattle.core_laws.specs.Covered.{AreKeptAside, AreNodesWithin, IsRoughWithin, node_places, rough_places}
-use Rattle.core_laws.specs.DiskRules.{IsDisk, less_part, less_rough_part}
+use Rattle.core_laws.specs.DiskRules.{IsDisk, IsTiedDisk, less_part, less_rough_part}
 use Rattle.core_laws.specs.Loans.{AreLoans, AreOut}
 use Rattle.core_laws.specs.Tied.{AreTied}
 use Rattle.core_laws.specs.Whole.{IsWhole}
@@ -35,6 +35,7 @@ use Rattle.core_laws.proofs.CoveredLemmas.{take_nodes, take_rough}
 use Rattle.core_laws.proofs.KeepMoves.{begin_whole}
 use Rattle.core_laws.proofs.LoanLemmas.{begin_loans, take_out}
 use Rattle.core_laws.proofs.PlacesLemmas.{begin_nodes, begin_rough}
+use Rattle.core_laws.proofs.RuleMoves.{tied_disk}
 use Rattle.core_laws.proofs.TiedLemmas.{begin_tied, loan_clear, take_tied}
 use Rattle.core_laws.proofs.WholeLemmas.{take_whole}
 
@@ -98,13 +99,13 @@ part_rough : (o : Option Lent) (places : List (List (List ℕ))) (rough : Paths)
 part_rough None places rough within = within
 part_rough (Some part) places rough within = take_rough places places part.path rough within (λ x aside most. most)
 
-pub begin_disk : (spoken : ℕ → Bool) (point : Point) (entry : Entry) (begun : Task) (lent : List (List (List ℕ))) (content : Part)
-    (rough : Paths) → KeptAscend point.kept → entry.event ≡ event.Begin begun → entry.reply ≡ reply.Started →
-    IsWork (next_number (after point entry)) (after point entry).book.rows (after point entry).work → IsDisk spoken point lent content rough →
-    IsDisk spoken (after point entry) (lent ++ path_of_task begun ∷ claimed_by_part (lent_for begun point.book.rows point.work.ways))
+pub begun_tied : (spoken : ℕ → Bool) (point : Point) (entry : Entry) (begun : Task) (lent : List (List (List ℕ))) (content : Part)
+    (rough : Paths) → entry.event ≡ event.Begin begun → entry.reply ≡ reply.Started →
+    IsWork (next_number (after point entry)) (after point entry).book.rows (after point entry).work → IsTiedDisk spoken point lent content rough →
+    IsTiedDisk spoken (after point entry) (lent ++ path_of_task begun ∷ claimed_by_part (lent_for begun point.book.rows point.work.ways))
     (less_part (lent_for begun point.book.rows point.work.ways) (without (path_of_task begun) content))
     (less_rough_part (lent_for begun point.book.rows point.work.ways) (paths_outside (path_of_task begun) rough))
-begin_disk spoken point entry begun lent content rough asc is told rules disk = record {
+begun_tied spoken point entry begun lent content rough is told rules disk = record {
   loans = subst (λ (jobs : List Job). AreLoans jobs (lent ++ loans_of job)) (sym jobs_are) (begin_loans point.work.jobs job lent disk.loans);
   out = takes AreOut part lent t content rough disk.out (λ taken some its_part its among held. take_out some taken its_part its held);
   tied =
@@ -112,6 +113,45 @@ begin_disk spoken point entry begun lent content rough asc is told rules disk = 
       (λ taken some its_part its among held.
       take_tied spoken (after point entry).book.rows (after point entry).work.jobs taken its_part its held
       (loan_clear (next_number (after point entry)) (after point entry).book.rows (after point entry).work taken rules (ours taken among)));
+}
+  where
+    t : List (List ℕ)
+    t = path_of_task begun
+
+    part : Option Lent
+    part = lent_for begun point.book.rows point.work.ways
+
+    job : Job
+    job = begun_job (next_number point) entry.by.caller begun point.book.rows point.work
+
+    left : Begun point entry begun
+    left = begun_point point entry begun is told
+
+    jobs_are : (after point entry).work.jobs ≡ point.work.jobs ++ job ∷ []
+    jobs_are = ap (λ (w : WorkState). w.jobs) left.work ∙ begun_jobs (next_number point) entry.by.caller begun point.book.rows point.work
+
+    tied : AreTied spoken (after point entry).book.rows (after point entry).work.jobs content rough
+    tied =
+        subst (λ (rows : List Row). AreTied spoken rows (after point entry).work.jobs content rough) (sym left.rows)
+        (subst (λ (jobs : List Job). AreTied spoken point.book.rows jobs content rough) (sym jobs_are)
+        (begin_tied spoken point.book.rows point.work.jobs job content rough disk.tied))
+
+    ours : (taken : List (List ℕ)) → Contains (loans_of job) taken → Contains (loans (after point entry).work.jobs) taken
+    ours taken among =
+        subst (λ (jobs : List Job). Contains (loans jobs) taken) (sym jobs_are)
+        (named_among loans_of (point.work.jobs ++ job ∷ []) job taken
+        (Contains-append_right point.work.jobs (job ∷ []) job (contains_first job [])) among)
+
+pub begin_disk : (spoken : ℕ → Bool) (point : Point) (entry : Entry) (begun : Task) (lent : List (List (List ℕ))) (content : Part)
+    (rough : Paths) → KeptAscend point.kept → entry.event ≡ event.Begin begun → entry.reply ≡ reply.Started →
+    IsWork (next_number (after point entry)) (after point entry).book.rows (after point entry).work → IsDisk spoken point lent content rough →
+    IsDisk spoken (after point entry) (lent ++ path_of_task begun ∷ claimed_by_part (lent_for begun point.book.rows point.work.ways))
+    (less_part (lent_for begun point.book.rows point.work.ways) (without (path_of_task begun) content))
+    (less_rough_part (lent_for begun point.book.rows point.work.ways) (paths_outside (path_of_task begun) rough))
+begin_disk spoken point entry begun lent content rough asc is told rules disk = record {
+  loans = tied.loans;
+  out = tied.out;
+  tied = tied.tied;
   covered =
       subst (λ (rows : List Row). AreNodesWithin (node_places rows (after point entry).work) (less_part part (without t content))) (sym left.rows)
       (subst (λ (work : WorkState). AreNodesWithin (node_places point.book.rows work) (less_part part (without t content))) (sym left.work)
@@ -135,43 +175,39 @@ begin_disk spoken point entry begun lent content rough asc is told rules disk = 
     part : Option Lent
     part = lent_for begun point.book.rows point.work.ways
 
-    job : Job
-    job = begun_job (next_number point) entry.by.caller begun point.book.rows point.work
-
     later : WorkState
     later = started (next_number point) entry.by.caller begun point.book.rows point.work
 
     left : Begun point entry begun
     left = begun_point point entry begun is told
 
-    jobs_are : (after point entry).work.jobs ≡ point.work.jobs ++ job ∷ []
-    jobs_are = ap (λ (w : WorkState). w.jobs) left.work ∙ begun_jobs (next_number point) entry.by.caller begun point.book.rows point.work
-
-    tied : AreTied spoken (after point entry).book.rows (after point entry).work.jobs content rough
-    tied =
-        subst (λ (rows : List Row). AreTied spoken rows (after point entry).work.jobs content rough) (sym left.rows)
-        (subst (λ (jobs : List Job). AreTied spoken point.book.rows jobs content rough) (sym jobs_are)
-        (begin_tied spoken point.book.rows point.work.jobs job content rough disk.tied))
-
-    ours : (taken : List (List ℕ)) → Contains (loans_of job) taken → Contains (loans (after point entry).work.jobs) taken
-    ours taken among =
-        subst (λ (jobs : List Job). Contains (loans jobs) taken) (sym jobs_are)
-        (named_among loans_of (point.work.jobs ++ job ∷ []) job taken
-        (Contains-append_right point.work.jobs (job ∷ []) job (contains_first job [])) among)
+    tied : IsTiedDisk spoken (after point entry) (lent ++ t ∷ claimed_by_part part) (less_part part (without t content))
+        (less_rough_part part (paths_outside t rough))
+    tied = begun_tied spoken point entry begun lent content rough is told rules (tied_disk spoken point lent content rough disk)
 
 -- ---- a begin that is refused
 
 -- what it has left: the same rows and kept rows, and a wipe's mark is gone
-record Kept (point : Point) (begun : Task) (served : Served) (caller : ℕ) : Type 0 where
+record Kept (point : Point) (begun : Task) (caller : ℕ) (what : Event) (served : Served) : Type 0 where
   rows : served.book.rows ≡ point.book.rows
-  work : work_after point caller (event.Begin begun) served ≡ refused begun point.work
-  kept : kept_after point (event.Begin begun) served ≡ point.kept
+  work : work_after point caller what served ≡ refused begun point.work
+  kept : kept_after point what served ≡ point.kept
 
 refused_served : (point : Point) (begun : Task) (note : FaultNote) (caller : ℕ) (b : Bool) →
     reply.Refused note ≡ (cond {A = Served} b (refuse (next_number point) begun note point.book) (record { reply = reply.Started; book = point.book })).reply →
-    Kept point begun (cond {A = Served} b (refuse (next_number point) begun note point.book) (record { reply = reply.Started; book = point.book })) caller
+    Kept point begun caller (event.Begin begun)
+    (cond {A = Served} b (refuse (next_number point) begun note point.book) (record { reply = reply.Started; book = point.book }))
 refused_served point begun note caller true told = record { rows = refl; work = refl; kept = refl }
 refused_served point begun note caller false told = absurd cc
+
+refused_point : (point : Point) (entry : Entry) (begun : Task) (note : FaultNote) → IsReplied point entry → entry.event ≡ event.Begin begun →
+    entry.reply ≡ reply.Refused note → Kept point begun entry.by.caller entry.event (answer point entry.now entry.event entry.reply)
+refused_point point entry begun note replied is told =
+    subst (λ (e : Event). Goal e entry.reply) (sym is) (subst (λ (r : Reply). Goal (event.Begin begun) r) (sym told)
+    (refused_served point begun note entry.by.caller (is_keeper note.device && list_any (overlaps_kept (path_of_task begun)) point.kept))) replied
+  where
+    Goal : Event → Reply → Type 0
+    Goal e r = r ≡ (answer point entry.now e r).reply → Kept point begun entry.by.caller e (answer point entry.now e r)
 
 refused_jobs : (begun : Task) (work : WorkState) → (refused begun work).jobs ≡ work.jobs
 refused_jobs (task.Make path stamp) work = refl
@@ -186,40 +222,42 @@ refused_rough : (begun : Task) (work : WorkState) → rough_places (refused begu
 refused_rough (task.Make path stamp) work = refl
 refused_rough (task.Wipe path) work = ap (λ (ps : List (List (List ℕ))). work.dirty ++ ps) (paths-map (marked false path) (marked-path false path) work.debris)
 
+pub refused_tied : (spoken : ℕ → Bool) (point : Point) (entry : Entry) (begun : Task) (note : FaultNote) (lent : List (List (List ℕ)))
+    (content : Part) (rough : Paths) → IsReplied point entry → entry.event ≡ event.Begin begun → entry.reply ≡ reply.Refused note →
+    IsTiedDisk spoken point lent content rough → IsTiedDisk spoken (after point entry) lent content rough
+refused_tied spoken point entry begun note lent content rough replied is told disk = record {
+  loans = subst (λ (js : List Job). AreLoans js lent) (sym jobs) disk.loans;
+  out = disk.out;
+  tied =
+      subst (λ (rows : List Row). AreTied spoken rows (after point entry).work.jobs content rough) (sym left.rows)
+      (subst (λ (js : List Job). AreTied spoken point.book.rows js content rough) (sym jobs) disk.tied);
+}
+  where
+    left : Kept point begun entry.by.caller entry.event (answer point entry.now entry.event entry.reply)
+    left = refused_point point entry begun note replied is told
+
+    jobs : (after point entry).work.jobs ≡ point.work.jobs
+    jobs = ap (λ (w : WorkState). w.jobs) left.work ∙ refused_jobs begun point.work
+
 pub refused_disk : (spoken : ℕ → Bool) (point : Point) (entry : Entry) (begun : Task) (note : FaultNote) (lent : List (List (List ℕ)))
     (content : Part) (rough : Paths) → IsReplied point entry → entry.event ≡ event.Begin begun → entry.reply ≡ reply.Refused note →
     IsDisk spoken point lent content rough → IsDisk spoken (after point entry) lent content rough
-refused_disk spoken point entry begun note lent content rough replied is told disk =
-    subst (λ (e : Event). Goal e entry.reply) (sym is) (subst (λ (r : Reply). Goal (event.Begin begun) r) (sym told) base) replied
+refused_disk spoken point entry begun note lent content rough replied is told disk = record {
+  loans = tied.loans;
+  out = tied.out;
+  tied = tied.tied;
+  covered =
+      subst (λ (rows : List Row). AreNodesWithin (node_places rows (after point entry).work) content) (sym left.rows)
+      (subst (λ (w : WorkState). AreNodesWithin (node_places point.book.rows w) content) (sym left.work)
+      (subst (λ (ps : List (List (List ℕ))). AreNodesWithin ps content) (sym (refused_nodes begun point.book.rows point.work)) disk.covered));
+  settled =
+      subst (λ (w : WorkState). IsRoughWithin (rough_places w) rough) (sym left.work)
+      (subst (λ (ps : List (List (List ℕ))). IsRoughWithin ps rough) (sym (refused_rough begun point.work)) disk.settled);
+  whole = subst (λ (ks : List KeptRow). IsWhole lent ks content rough) (sym left.kept) disk.whole;
+}
   where
-    answered : Event → Reply → Served
-    answered e r = answer point entry.now e r
+    left : Kept point begun entry.by.caller entry.event (answer point entry.now entry.event entry.reply)
+    left = refused_point point entry begun note replied is told
 
-    Goal : Event → Reply → Type 0
-    Goal e r = r ≡ (answer point entry.now e r).reply → IsDisk spoken (record {
-      history = point.history ++ entry ∷ [];
-      book = (answer point entry.now e r).book;
-      work = work_after point entry.by.caller e (answer point entry.now e r);
-      kept = kept_after point e (answer point entry.now e r);
-      nodes = (after point entry).nodes;
-    }) lent content rough
-
-    base : Goal (event.Begin begun) (reply.Refused note)
-    base said =
-        let left = refused_served point begun note entry.by.caller (is_keeper note.device && list_any (overlaps_kept (path_of_task begun)) point.kept) said in
-        let jobs = ap (λ (w : WorkState). w.jobs) left.work ∙ refused_jobs begun point.work in
-        record {
-          loans = subst (λ (js : List Job). AreLoans js lent) (sym jobs) disk.loans;
-          out = disk.out;
-          tied =
-              subst (λ (rows : List Row). AreTied spoken rows (work_after point entry.by.caller (event.Begin begun) (answered (event.Begin begun) (reply.Refused note))).jobs content rough) (sym left.rows)
-              (subst (λ (js : List Job). AreTied spoken point.book.rows js content rough) (sym jobs) disk.tied);
-          covered =
-              subst (λ (rows : List Row). AreNodesWithin (node_places rows (work_after point entry.by.caller (event.Begin begun) (answered (event.Begin begun) (reply.Refused note)))) content) (sym left.rows)
-              (subst (λ (w : WorkState). AreNodesWithin (node_places point.book.rows w) content) (sym left.work)
-              (subst (λ (ps : List (List (List ℕ))). AreNodesWithin ps content) (sym (refused_nodes begun point.book.rows point.work)) disk.covered));
-          settled =
-              subst (λ (w : WorkState). IsRoughWithin (rough_places w) rough) (sym left.work)
-              (subst (λ (ps : List (List (List ℕ))). IsRoughWithin ps rough) (sym (refused_rough begun point.work)) disk.settled);
-          whole = subst (λ (ks : List KeptRow). IsWhole lent ks content rough) (sym left.kept) disk.whole;
-        }
+    tied : IsTiedDisk spoken (after point entry) lent content rough
+    tied = refused_tied spoken point entry begun note lent content rough replied is told (tied_disk spoken point lent content rough disk)

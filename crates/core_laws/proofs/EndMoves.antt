@@ -29,7 +29,7 @@ use Rattle.model_laws.proofs.RowLemmas.{row_step}
 use Rattle.model_laws.proofs.StoredLemmas.{stored_dropped, stored_no_task}
 use Rattle.region_port.specs.Calls.{Paths, paths_below, paths_of_both}
 use Rattle.core_laws.specs.Covered.{AreNodesWithin, IsRoughWithin, node_places, rough_places}
-use Rattle.core_laws.specs.DiskRules.{IsDisk}
+use Rattle.core_laws.specs.DiskRules.{IsDisk, IsTiedDisk}
 use Rattle.core_laws.specs.Ends.{IsEndedPart, IsMadePart, IsReadBack, IsReadPart, IsReadSpoken, IsWipedPart, not_stored, with_job, with_rough_job}
 use Rattle.core_laws.specs.Loans.{AreLoans, AreOut, given_back}
 use Rattle.core_laws.specs.Tied.{AreTied, IsLeftBy, IsTreeAt}
@@ -40,6 +40,7 @@ use Rattle.core_laws.proofs.KeepMoves.{entry_whole, gives_whole}
 use Rattle.core_laws.proofs.LoanLemmas.{end_loans, fewer_apart, give_out, is_running, jobs_out, lent_apart, part_lent, task_lent}
 use Rattle.core_laws.proofs.PlaceLemmas.{give_aside}
 use Rattle.core_laws.proofs.PointMoves.{end_jobs, end_rows}
+use Rattle.core_laws.proofs.RuleMoves.{tied_disk}
 use Rattle.core_laws.proofs.TiedLemmas.{end_tied, give_tied, loan_clear, tree_given, tree_stays}
 
 -- ---- what is out
@@ -52,7 +53,7 @@ task_out next number rows work lent job inner content its rough rules runs are o
     give_out lent (path_of_job job) inner content its rough (lent_apart next rows work lent rules are)
     (task_lent work.jobs lent job are (is_running number work.jobs job runs).among) out
 
-pub gives_out : (next number : ℕ) (rows : List Row) (work : WorkState) (lent : List (List (List ℕ))) (job : Job) (regions : Regions)
+gives_out : (next number : ℕ) (rows : List Row) (work : WorkState) (lent : List (List (List ℕ))) (job : Job) (regions : Regions)
     (inner content : Part) (its part rough : Paths) → IsWork next rows work → running number work ≡ Some job → AreLoans work.jobs lent →
     AreOut lent content rough → AreOut (given_back (loans_of job) lent) (with_job job inner regions content) (with_rough_job job its part rough)
 gives_out next number rows work lent job regions inner content its part rough rules runs are out = by job.lent refl
@@ -123,7 +124,7 @@ gives_tied spoken next number rows work job regions inner content its part rough
         give_tied spoken rows work.jobs read.path (regions read.path) (replaced p inner content) part (paths_of_both rough (paths_below p its)) first
         (loan_clear next rows work read.path rules (named_among loans_of work.jobs job read.path among (part_loan job read is)))
 
-pub end_gives_tied : (spoken : ℕ → Bool) (point : Point) (entry : Entry) (number : ℕ) (out : Outcome) (job : Job) (lent : List (List (List ℕ)))
+end_gives_tied : (spoken : ℕ → Bool) (point : Point) (entry : Entry) (number : ℕ) (out : Outcome) (job : Job) (lent : List (List (List ℕ)))
     (regions : Regions) (inner content : Part) (its part rough : Paths) → IsWork (next_number point) point.book.rows point.work →
     entry.event ≡ event.Done number out → running number point.work ≡ Some job → AreLoans point.work.jobs lent → AreOut lent content rough →
     IsEndedPart job.task out point.book.rows inner its → IsReadBack spoken job regions part →
@@ -307,13 +308,12 @@ read_settled job regions part back = by job.lent refl
     by None has = tt
     by (Some read) has = (back read has).settled
 
-pub gives_disk : (spoken : ℕ → Bool) (point : Point) (entry : Entry) (number : ℕ) (out : Outcome) (job : Job) (lent : List (List (List ℕ)))
+pub end_tied_disk : (spoken : ℕ → Bool) (point : Point) (entry : Entry) (number : ℕ) (out : Outcome) (job : Job) (lent : List (List (List ℕ)))
     (regions : Regions) (inner content : Part) (its part rough : Paths) → IsWork (next_number point) point.book.rows point.work →
-    IsStored point.book.rows point.work.jobs point.kept → entry.event ≡ event.Done number out → running number point.work ≡ Some job →
-    IsEndedPart job.task out point.book.rows inner its → IsReadSpoken spoken job → IsReadBack spoken job regions part →
-    IsDisk spoken point lent content rough →
-    IsDisk spoken (not_stored point entry) (given_back (loans_of job) lent) (with_job job inner regions content) (with_rough_job job its part rough)
-gives_disk spoken point entry number out job lent regions inner content its part rough rules stored is runs ended said back disk = record {
+    entry.event ≡ event.Done number out → running number point.work ≡ Some job → IsEndedPart job.task out point.book.rows inner its →
+    IsReadBack spoken job regions part → IsTiedDisk spoken point lent content rough →
+    IsTiedDisk spoken (after point entry) (given_back (loans_of job) lent) (with_job job inner regions content) (with_rough_job job its part rough)
+end_tied_disk spoken point entry number out job lent regions inner content its part rough rules is runs ended back disk = record {
   loans =
       subst (λ (jobs : List Job). AreLoans jobs (given_back (loans_of job) lent)) (sym (end_jobs point entry number out job is runs))
       (end_loans (next_number point) number point.book.rows point.work job lent rules runs disk.loans);
@@ -321,6 +321,18 @@ gives_disk spoken point entry number out job lent regions inner content its part
       gives_out (next_number point) number point.book.rows point.work lent job regions inner content its part rough rules runs disk.loans disk.out;
   tied =
       end_gives_tied spoken point entry number out job lent regions inner content its part rough rules is runs disk.loans disk.out ended back disk.tied;
+}
+
+pub gives_disk : (spoken : ℕ → Bool) (point : Point) (entry : Entry) (number : ℕ) (out : Outcome) (job : Job) (lent : List (List (List ℕ)))
+    (regions : Regions) (inner content : Part) (its part rough : Paths) → IsWork (next_number point) point.book.rows point.work →
+    IsStored point.book.rows point.work.jobs point.kept → entry.event ≡ event.Done number out → running number point.work ≡ Some job →
+    IsEndedPart job.task out point.book.rows inner its → IsReadSpoken spoken job → IsReadBack spoken job regions part →
+    IsDisk spoken point lent content rough →
+    IsDisk spoken (not_stored point entry) (given_back (loans_of job) lent) (with_job job inner regions content) (with_rough_job job its part rough)
+gives_disk spoken point entry number out job lent regions inner content its part rough rules stored is runs ended said back disk = record {
+  loans = tied.loans;
+  out = tied.out;
+  tied = tied.tied;
   covered = gives_nodes spoken point entry number out job lent regions inner content its rough rules is runs ended disk;
   settled = gives_rough spoken point entry number out job lent regions inner content its part rough rules is runs ended came disk;
   whole =
@@ -328,6 +340,11 @@ gives_disk spoken point entry number out job lent regions inner content its part
       disk.loans disk.out (read_tree job regions part came) (read_settled job regions part came) disk.whole;
 }
   where
+    tied : IsTiedDisk spoken (after point entry) (given_back (loans_of job) lent) (with_job job inner regions content) (with_rough_job job its part rough)
+    tied =
+        end_tied_disk spoken point entry number out job lent regions inner content its part rough rules is runs ended back
+        (tied_disk spoken point lent content rough disk)
+
     came : (read : Lent) → job.lent ≡ Some read → IsReadPart read (regions read.path) part
     came read has = back read has (said read has)
 

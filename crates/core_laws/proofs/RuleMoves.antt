@@ -11,16 +11,17 @@ use Rattle.mat_model.specs.declared.requests.Asked.{Asked}
 use Rattle.mat_model.specs.History.{Point, after, next_number, opened}
 use Rattle.mat_model.specs.Legal.{IsRecorded, IsReplied}
 use Rattle.mat_model.specs.Openings.{IsOpening, opening_rows, path_of_row}
+use Rattle.mat_model.specs.Rows.{are_apart}
 use Rattle.mat_model.specs.WorkState.{Job}
 use Rattle.model_laws.specs.StoredRules.{IsStored}
 use Rattle.model_laws.specs.WorkRules.{IsWork, loans}
 use Rattle.region_port.specs.Calls.{Paths}
 use Rattle.region_port.specs.Strays.{AreTopmost, candidates}
 use Rattle.core_laws.specs.Covered.{IsCovered, IsRoughCovered, node_places, rough_places}
-use Rattle.core_laws.specs.DiskRules.{IsDisk}
+use Rattle.core_laws.specs.DiskRules.{IsDisk, IsTiedDisk}
 use Rattle.core_laws.specs.Loans.{AreLoans}
 use Rattle.core_laws.specs.Places.{IsSameBelow}
-use Rattle.core_laws.specs.Tied.{AreTied}
+use Rattle.core_laws.specs.Tied.{IsTreeAt}
 use Rattle.core_laws.specs.Whole.{HaveLentTrees, IsImage, IsWhole, Regions}
 use Rattle.core_laws.proofs.CoveredLemmas.{kept_nodes, kept_rough}
 use Rattle.core_laws.proofs.ImageLemmas.{image_whole}
@@ -32,15 +33,18 @@ use Rattle.core_laws.proofs.PointMoves.{request_jobs, request_tied}
 use Rattle.core_laws.proofs.TiedLemmas.{tree_stays}
 use Rattle.core_laws.proofs.WholeLemmas.{same_whole}
 
-pub same_disk : (spoken : ℕ → Bool) (point : Point) (lent : List (List (List ℕ))) (old new : Part) (before later : Paths) →
-    IsSameBelow [] old before new later → IsDisk spoken point lent old before → IsDisk spoken point lent new later
-same_disk spoken point lent old new before later same disk = record {
+-- ---- rules that don't ask how the disk was at the opening
+
+pub tied_disk : (spoken : ℕ → Bool) (point : Point) (lent : List (List (List ℕ))) (content : Part) (rough : Paths) →
+    IsDisk spoken point lent content rough → IsTiedDisk spoken point lent content rough
+tied_disk spoken point lent content rough disk = record { loans = disk.loans; out = disk.out; tied = disk.tied }
+
+pub same_tied : (spoken : ℕ → Bool) (point : Point) (lent : List (List (List ℕ))) (old new : Part) (before later : Paths) →
+    IsSameBelow [] old before new later → IsTiedDisk spoken point lent old before → IsTiedDisk spoken point lent new later
+same_tied spoken point lent old new before later same disk = record {
   loans = disk.loans;
   out = λ loan among. bare_stays loan old new before later (at loan) (disk.out loan among);
   tied = λ row among home said. tree_stays row.path row.tree old new before later (at row.path) (disk.tied row among home said);
-  covered = λ path there. disk.covered path (ap is_some (sym (same.node path (prefix-append [] path))) ∙ there);
-  settled = λ path is. disk.settled path (sym (same.rough path (prefix-append [] path)) ∙ is);
-  whole = same_whole lent point.kept old new before later same disk.whole;
 }
   where
     at : (place : List (List ℕ)) → IsSameBelow place old before new later
@@ -49,6 +53,40 @@ same_disk spoken point lent old new before later same disk = record {
       rough = λ path under. same.rough path (prefix-append [] path);
     }
 
+pub asked_tied : (spoken : ℕ → Bool) (point : Point) (entry : Entry) (request : Asked) (lent : List (List (List ℕ))) (content : Part)
+    (rough : Paths) → are_apart point.book.rows ≡ true → entry.event ≡ event.Asked request → IsTiedDisk spoken point lent content rough →
+    IsTiedDisk spoken (after point entry) lent content rough
+asked_tied spoken point entry request lent content rough apart is disk = record {
+  loans = subst (λ (jobs : List Job). AreLoans jobs lent) (sym (request_jobs point entry request is)) disk.loans;
+  out = disk.out;
+  tied = request_tied spoken point entry request content rough apart is disk.tied;
+}
+
+pub opened_tied : (spoken : ℕ → Bool) (opening : Opening) (content : Part) (rough : Paths) →
+    ((row : Row) → Contains (opened opening).book.rows row → spoken row.stamp ≡ true → IsTreeAt row.path row.tree content rough) →
+    IsTiedDisk spoken (opened opening) [] content rough
+opened_tied spoken opening content rough each = record {
+  loans = no_loans;
+  out = none_out content rough;
+  tied = λ row among home said. each row among said;
+}
+
+-- ---- all rules
+
+pub same_disk : (spoken : ℕ → Bool) (point : Point) (lent : List (List (List ℕ))) (old new : Part) (before later : Paths) →
+    IsSameBelow [] old before new later → IsDisk spoken point lent old before → IsDisk spoken point lent new later
+same_disk spoken point lent old new before later same disk = record {
+  loans = tied.loans;
+  out = tied.out;
+  tied = tied.tied;
+  covered = λ path there. disk.covered path (ap is_some (sym (same.node path (prefix-append [] path))) ∙ there);
+  settled = λ path is. disk.settled path (sym (same.rough path (prefix-append [] path)) ∙ is);
+  whole = same_whole lent point.kept old new before later same disk.whole;
+}
+  where
+    tied : IsTiedDisk spoken point lent new later
+    tied = same_tied spoken point lent old new before later same (tied_disk spoken point lent old before disk)
+
 pub request_disk : (spoken : ℕ → Bool) (point : Point) (entry : Entry) (request : Asked) (lent : List (List (List ℕ))) (content : Part)
     (rough : Paths) → IsWork (next_number point) point.book.rows point.work → IsStored point.book.rows point.work.jobs point.kept →
     IsReplied point entry → IsRecorded point entry → entry.event ≡ event.Asked request →
@@ -56,19 +94,17 @@ pub request_disk : (spoken : ℕ → Bool) (point : Point) (entry : Entry) (requ
     ((row : Row) → Contains (after point entry).book.rows row → spoken row.stamp ≡ true) → IsDisk spoken point lent content rough →
     IsDisk spoken (after point entry) lent content rough
 request_disk spoken point entry request lent content rough rules stored replied counted is later said disk = record {
-  loans = are;
-  out = disk.out;
-  tied = tied;
+  loans = tied.loans;
+  out = tied.out;
+  tied = tied.tied;
   covered = covered;
   settled = settled;
-  whole = entry_whole spoken point entry lent content rough stored.order replied counted later are tied covered settled said disk.whole;
+  whole =
+      entry_whole spoken point entry lent content rough stored.order replied counted later tied.loans tied.tied covered settled said disk.whole;
 }
   where
-    are : AreLoans (after point entry).work.jobs lent
-    are = subst (λ (jobs : List Job). AreLoans jobs lent) (sym (request_jobs point entry request is)) disk.loans
-
-    tied : AreTied spoken (after point entry).book.rows (after point entry).work.jobs content rough
-    tied = request_tied spoken point entry request content rough rules.apart is disk.tied
+    tied : IsTiedDisk spoken (after point entry) lent content rough
+    tied = asked_tied spoken point entry request lent content rough rules.apart is (tied_disk spoken point lent content rough disk)
 
     covered : IsCovered (after point entry).book.rows (after point entry).work content
     covered =

@@ -23,6 +23,12 @@ pub record IsDisk (spoken : ℕ → Bool) (point : Point) (lent : List (List (Li
   -- each kept row is whole
   pub whole : IsWhole lent point.kept content rough
 
+-- a disk keeps those of these rules that don't ask how it was at the opening
+pub record IsTiedDisk (spoken : ℕ → Bool) (point : Point) (lent : List (List (List ℕ))) (content : Part) (rough : Paths) : Type 0 where
+  pub loans : AreLoans point.work.jobs lent
+  pub out : AreOut lent content rough
+  pub tied : AreTied spoken point.book.rows point.work.jobs content rough
+
 -- a disk once the part that a job reads is taken, if it reads one
 abbrev pub less_part : Option Lent → Part → Part
 less_part None content = content

@@ -8,37 +8,14 @@ ghost use Rattle.mat_model.specs.declared.entries.Outcome.{Outcome};
 ghost use Rattle.mat_model.specs.History.{Point, after, next_number};
 ghost use Rattle.mat_model.specs.Legal.{IsRecorded, IsReplied};
 ghost use Rattle.mat_model.specs.Rows.{are_apart};
-ghost use Rattle.mat_model.specs.WorkState.{Job, WorkState, running};
+ghost use Rattle.mat_model.specs.WorkState.{Job, running};
 ghost use Rattle.model_laws.specs.StoredRules.{IsStored};
 ghost use Rattle.model_laws.specs.WorkRules.{IsWork, loans_of};
 ghost use Rattle.region_port.specs.Calls.{Paths};
 ghost use Rattle.core_laws.specs.DiskRules.{IsDisk};
 ghost use Rattle.core_laws.specs.Ends.{IsEndedPart, IsReadBack, IsReadSpoken, not_stored, with_job, with_rough_job};
-ghost use Rattle.core_laws.specs.Loans.{AreLoans, AreOut, given_back};
-ghost use Rattle.core_laws.specs.Tied.{AreTied};
+ghost use Rattle.core_laws.specs.Loans.{given_back};
 ghost use Rattle.core_laws.specs.Whole.{Regions};
-
-/// All that comes back for a job, its task's part and then the part that it read, leaves the disk with nothing at or below the other loans,
-/// whatever those parts have become.
-pub fn job_gives_keep_out()
-    ensures { (next number : ℕ) (rows : List Row) (work : WorkState) (lent : List (List (List ℕ))) (job : Job) (regions : Regions)
-        (inner content : Part) (its part rough : Paths) → IsWork next rows work → running number work ≡ Some job →
-        AreLoans work.jobs lent → AreOut lent content rough →
-        AreOut (given_back (loans_of job) lent) (with_job job inner regions content) (with_rough_job job its part rough) }
-{}
-
-/// The end of a job keeps the rows tied once they have come back: the row that it made has its tree then, and so has the one that it read, where its
-/// stamp is spoken for.
-pub fn job_gives_keep_tied()
-    ensures { (spoken : ℕ → Bool) (point : Point) (entry : Entry) (number : ℕ) (out : Outcome) (job : Job) (lent : List (List (List ℕ)))
-        (regions : Regions) (inner content : Part) (its part rough : Paths) →
-        IsWork (next_number point) point.book.rows point.work → entry.event ≡ event.Done number out →
-        running number point.work ≡ Some job → AreLoans point.work.jobs lent → AreOut lent content rough →
-        IsEndedPart job.task out point.book.rows inner its → IsReadBack spoken job regions part →
-        AreTied spoken point.book.rows point.work.jobs content rough →
-        AreTied spoken (after point entry).book.rows (after point entry).work.jobs (with_job job inner regions content)
-        (with_rough_job job its part rough) }
-{}
 
 /// The end of a job keeps the rules of the disk, once its task's part and then the part that it read are given back, and as long as what it records
 /// isn't stored.

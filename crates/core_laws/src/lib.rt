@@ -13,6 +13,7 @@ mod opening_laws;
 mod place_laws;
 mod point_laws;
 mod rule_laws;
+mod tied_disk_laws;
 mod tied_laws;
 mod whole_laws;
 
@@ -30,10 +31,7 @@ pub use disk_laws::{
     give_brings_part, give_leaves_others, same_keeps_bare, take_and_give_is_same,
     take_leaves_nothing, take_leaves_others,
 };
-pub use end_laws::{
-    end_keeps_disk, job_gives_keep_disk, job_gives_keep_out, job_gives_keep_stored,
-    job_gives_keep_tied,
-};
+pub use end_laws::{end_keeps_disk, job_gives_keep_disk, job_gives_keep_stored};
 pub use image_laws::{disk_image_is_whole, given_task_image_is_whole, taken_task_image_is_whole};
 pub use keep_laws::{
     begin_keeps_whole, entry_keeps_whole, job_gives_keep_whole, same_trees_are_whole,
@@ -57,6 +55,10 @@ pub use point_laws::{end_drops_job, end_leaves_rows, request_keeps_jobs, request
 pub use rule_laws::{
     begin_keeps_disk, refused_begin_keeps_disk, request_keeps_disk, restart_keeps_disk,
     same_keeps_disk,
+};
+pub use tied_disk_laws::{
+    begin_keeps_tied_disk, end_keeps_tied_disk, opening_is_tied_disk,
+    refused_begin_keeps_tied_disk, request_keeps_tied_disk,
 };
 pub use tied_laws::{
     away_row_is_clear, begin_keeps_clear, begin_keeps_tied, debris_is_clear, end_keeps_tied,
