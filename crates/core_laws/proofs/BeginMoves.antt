@@ -41,7 +41,7 @@ use Rattle.core_laws.proofs.WholeLemmas.{take_whole}
 
 -- ---- the point
 
-abbrev begun_job : ℕ → ℕ → Task → List Row → WorkState → Job
+abbrev pub begun_job : ℕ → ℕ → Task → List Row → WorkState → Job
 begun_job number caller begun rows work = record { number = number; caller = caller; task = begun; lent = lent_for begun rows work.ways }
 
 begun_jobs : (number caller : ℕ) (begun : Task) (rows : List Row) (work : WorkState) →
@@ -75,6 +75,12 @@ begun_point point entry begun is told = record {
       (subst (λ (r : Reply). work_after point entry.by.caller (event.Begin begun) (answer point entry.now (event.Begin begun) r)
       ≡ started (next_number point) entry.by.caller begun point.book.rows point.work) (sym told) refl);
 }
+
+pub jobs_begun : (point : Point) (entry : Entry) (begun : Task) → entry.event ≡ event.Begin begun → entry.reply ≡ reply.Started →
+    (after point entry).work.jobs ≡ point.work.jobs ++ begun_job (next_number point) entry.by.caller begun point.book.rows point.work ∷ []
+jobs_begun point entry begun is told =
+    ap (λ (w : WorkState). w.jobs) (begun_point point entry begun is told).work
+    ∙ begun_jobs (next_number point) entry.by.caller begun point.book.rows point.work
 
 -- ---- takes
 
@@ -124,15 +130,12 @@ begun_tied spoken point entry begun lent content rough is told rules disk = reco
     job : Job
     job = begun_job (next_number point) entry.by.caller begun point.book.rows point.work
 
-    left : Begun point entry begun
-    left = begun_point point entry begun is told
-
     jobs_are : (after point entry).work.jobs ≡ point.work.jobs ++ job ∷ []
-    jobs_are = ap (λ (w : WorkState). w.jobs) left.work ∙ begun_jobs (next_number point) entry.by.caller begun point.book.rows point.work
+    jobs_are = jobs_begun point entry begun is told
 
     tied : AreTied spoken (after point entry).book.rows (after point entry).work.jobs content rough
     tied =
-        subst (λ (rows : List Row). AreTied spoken rows (after point entry).work.jobs content rough) (sym left.rows)
+        subst (λ (rows : List Row). AreTied spoken rows (after point entry).work.jobs content rough) (sym (begun_point point entry begun is told).rows)
         (subst (λ (jobs : List Job). AreTied spoken point.book.rows jobs content rough) (sym jobs_are)
         (begin_tied spoken point.book.rows point.work.jobs job content rough disk.tied))
 

@@ -1,9 +1,11 @@
 -- What a crash leaves between the gives of an end and between the takes of a begin.
-use Rattle.std.proofs.Common.{◌≡◌, ℕ, Bool, true, false, List, [], ◌∷◌, ◌++◌, Option, Some, subst, ◌∙◌, Contains}
+use Rattle.std.proofs.Common.{◌≡◌, ◌≤◌, ℕ, Bool, true, false, inl, inr, List, [], ◌∷◌, ◌++◌, Some, None, sym, ap, subst, ◌∙◌, map, Contains, arith}
 use Rattle.std.proofs.lemmas.Bool.{both_ways, false_from_ne_true}
-use Rattle.std.proofs.lemmas.List.{append_assoc}
-use Rattle.std.proofs.lemmas.List.Elements.{Contains-append_left}
+use Rattle.std.proofs.lemmas.List.{map-append}
+use Rattle.std.proofs.lemmas.List.Elements.{Contains-append_cases, Contains-append_left}
+use Rattle.mat_path.specs.Covering.{covering}
 use Rattle.mat_path.specs.Names.{is_prefix}
+use Rattle.mat_path.proofs.Elements.{contains_cases}
 use Rattle.mat_path.proofs.PathLemmas.{prefix-trans}
 use Rattle.mat_tree.specs.Parts.{Part, replaced, without}
 use Rattle.mat_model.specs.declared.answers.Reply.TheVariants as reply
@@ -11,19 +13,19 @@ use Rattle.mat_model.specs.declared.entries.Entry.{Entry}
 use Rattle.mat_model.specs.declared.entries.Event.TheVariants as event
 use Rattle.mat_model.specs.declared.entries.Task.{Task}
 use Rattle.mat_model.specs.History.{Point, after, next_number}
-use Rattle.mat_model.specs.WorkState.{Job, Lent, lent_for, path_of_task, running}
+use Rattle.mat_model.specs.WorkState.{Job, Lent, path_of_task, running}
+use Rattle.model_laws.specs.KeptRules.{KeptAscend, path_of_kept}
 use Rattle.model_laws.specs.StoredRules.{IsStored, path_of_job}
-use Rattle.model_laws.specs.WorkRules.{IsWork, claimed_by_part}
 use Rattle.region_port.specs.Calls.{Paths, paths_below, paths_of_both, paths_outside}
-use Rattle.core_laws.specs.DiskRules.{IsDisk}
+use Rattle.core_laws.specs.DiskRules.{IsDisk, begun_unread}
 use Rattle.core_laws.specs.Whole.{HaveLentTrees, IsImage, IsSpared, IsWhole, Regions}
-use Rattle.core_laws.proofs.BeginMoves.{begin_disk}
+use Rattle.core_laws.proofs.BeginMoves.{begun_job, jobs_begun}
 use Rattle.core_laws.proofs.ImageLemmas.{image_whole}
 use Rattle.core_laws.proofs.KeepMoves.{begin_whole}
-use Rattle.core_laws.proofs.LoanLemmas.{is_running}
+use Rattle.core_laws.proofs.LoanLemmas.{begin_loans, is_running}
 use Rattle.core_laws.proofs.PlaceLemmas.{given_elsewhere, replaced_elsewhere}
 use Rattle.core_laws.proofs.RuleMoves.{disk_image}
-use Rattle.core_laws.proofs.WholeLemmas.{more_lent_whole, take_whole}
+use Rattle.core_laws.proofs.WholeLemmas.{take_whole}
 
 -- ---- gives
 
@@ -62,27 +64,59 @@ given_image spoken point number job lent regions inner content image its rough l
 
 -- ---- takes
 
+-- a job that reads nothing yet has no part
+no_part : (number caller : ℕ) (begun : Task) (job : Job) (part : Lent) → Contains (begun_unread number caller begun ∷ []) job → job.lent ≡ Some part → ⊥
+no_part number caller begun job part among has =
+    elim (contains_cases (begun_unread number caller begun) [] job among) [
+      | inl same ↦ let none : job.lent ≡ None = ap (λ (j : Job). j.lent) (sym same) in absurd cc
+      | inr (k, within, at) ↦ absurd (omega arith)
+    ]
+
+-- kept rows keep their rules beside the jobs of which the new one reads nothing yet
+unread_stored : (point : Point) (entry : Entry) (begun : Task) → entry.event ≡ event.Begin begun → entry.reply ≡ reply.Started →
+    IsStored (after point entry).book.rows (after point entry).work.jobs (after point entry).kept →
+    IsStored (after point entry).book.rows (point.work.jobs ++ begun_unread (next_number point) entry.by.caller begun ∷ []) (after point entry).kept
+unread_stored point entry begun is told stored = record {
+  order = stored.order;
+  once = λ path. subst (λ (ps : List (List (List ℕ))). covering path (map path_of_kept (after point entry).kept ++ ps) ≤ 1) paths (stored.once path);
+  stands = stored.stands;
+  lent = λ one job part among within has meet. elim (Contains-append_cases point.work.jobs (unread ∷ []) job within) [
+    | inl was ↦
+        stored.lent one job part among
+        (subst (λ (jobs : List Job). Contains jobs job) (sym jobs_are) (Contains-append_left point.work.jobs (new ∷ []) job was)) has meet
+    | inr now ↦ absurd (no_part (next_number point) entry.by.caller begun job part now has)
+  ];
+}
+  where
+    new : Job
+    new = begun_job (next_number point) entry.by.caller begun point.book.rows point.work
+
+    unread : Job
+    unread = begun_unread (next_number point) entry.by.caller begun
+
+    jobs_are : (after point entry).work.jobs ≡ point.work.jobs ++ new ∷ []
+    jobs_are = jobs_begun point entry begun is told
+
+    paths : map path_of_job (after point entry).work.jobs ≡ map path_of_job (point.work.jobs ++ unread ∷ [])
+    paths = ap (map path_of_job) jobs_are ∙ map-append path_of_job point.work.jobs (new ∷ []) ∙ sym (map-append path_of_job point.work.jobs (unread ∷ []))
+
 pub taken_image : (spoken : ℕ → Bool) (point : Point) (entry : Entry) (begun : Task) (lent : List (List (List ℕ))) (regions : Regions)
-    (content image : Part) (rough later : Paths) → IsStored point.book.rows point.work.jobs point.kept → entry.event ≡ event.Begin begun →
-    entry.reply ≡ reply.Started → IsWork (next_number (after point entry)) (after point entry).book.rows (after point entry).work →
+    (content image : Part) (rough later : Paths) → KeptAscend point.kept → entry.event ≡ event.Begin begun → entry.reply ≡ reply.Started →
     IsStored (after point entry).book.rows (after point entry).work.jobs (after point entry).kept → IsDisk spoken point lent content rough →
-    HaveLentTrees (after point entry).work.jobs regions →
-    IsImage (after point entry).work.jobs regions (without (path_of_task begun) content) (paths_outside (path_of_task begun) rough) image later →
-    IsWhole [] (after point entry).kept image later
-taken_image spoken point entry begun lent regions content image rough later before is told rules stored disk trees left =
-    image_whole (after point entry).book.rows (after point entry).work.jobs (lent ++ t ∷ claimed_by_part part) (after point entry).kept regions
-    (without t content) image (paths_outside t rough) later stored
-    (begin_disk spoken point entry begun lent content rough before.order is told rules disk).loans trees
-    (more_lent_whole (lent ++ t ∷ []) (lent ++ t ∷ claimed_by_part part) (after point entry).kept (without t content) (paths_outside t rough) more
-    (take_whole lent (after point entry).kept t content rough (begin_whole point entry begun lent content rough before.order is disk.whole))) left
+    HaveLentTrees point.work.jobs regions →
+    IsImage (point.work.jobs ++ begun_unread (next_number point) entry.by.caller begun ∷ []) regions (without (path_of_task begun) content)
+    (paths_outside (path_of_task begun) rough) image later → IsWhole [] (after point entry).kept image later
+taken_image spoken point entry begun lent regions content image rough later asc is told stored disk trees left =
+    image_whole (after point entry).book.rows (point.work.jobs ++ unread ∷ []) (lent ++ t ∷ []) (after point entry).kept regions (without t content) image
+    (paths_outside t rough) later (unread_stored point entry begun is told stored) (begin_loans point.work.jobs unread lent disk.loans)
+    (λ job part among has. elim (Contains-append_cases point.work.jobs (unread ∷ []) job among) [
+      | inl was ↦ trees job part was has
+      | inr now ↦ absurd (no_part (next_number point) entry.by.caller begun job part now has)
+    ])
+    (take_whole lent (after point entry).kept t content rough (begin_whole point entry begun lent content rough asc is disk.whole)) left
   where
     t : List (List ℕ)
     t = path_of_task begun
 
-    part : Option Lent
-    part = lent_for begun point.book.rows point.work.ways
-
-    more : (loan : List (List ℕ)) → Contains (lent ++ t ∷ []) loan → Contains (lent ++ t ∷ claimed_by_part part) loan
-    more loan among =
-        subst (λ (l : List (List (List ℕ))). Contains l loan) (append_assoc lent (t ∷ []) (claimed_by_part part))
-        (Contains-append_left (lent ++ t ∷ []) (claimed_by_part part) loan among)
+    unread : Job
+    unread = begun_unread (next_number point) entry.by.caller begun

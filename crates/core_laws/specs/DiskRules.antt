@@ -1,8 +1,9 @@
 -- All that holds of a disk beside a point.
 use Rattle.std.specs.Prelude.{ℕ, Bool, List, Option, Some, None}
 use Rattle.mat_tree.specs.Parts.{Part, without}
+use Rattle.mat_model.specs.declared.entries.Task.{Task}
 use Rattle.mat_model.specs.History.{Point}
-use Rattle.mat_model.specs.WorkState.{Lent}
+use Rattle.mat_model.specs.WorkState.{Job, Lent}
 use Rattle.region_port.specs.Calls.{Paths, paths_outside}
 use Rattle.core_laws.specs.Covered.{IsCovered, IsRoughCovered}
 use Rattle.core_laws.specs.Loans.{AreLoans, AreOut}
@@ -28,6 +29,10 @@ pub record IsTiedDisk (spoken : ℕ → Bool) (point : Point) (lent : List (List
   pub loans : AreLoans point.work.jobs lent
   pub out : AreOut lent content rough
   pub tied : AreTied spoken point.book.rows point.work.jobs content rough
+
+-- a job that has begun, as long as its task is taken and the part that it reads isn't
+abbrev pub begun_unread : ℕ → ℕ → Task → Job
+begun_unread number caller begun = record { number = number; caller = caller; task = begun; lent = None }
 
 -- a disk once the part that a job reads is taken, if it reads one
 abbrev pub less_part : Option Lent → Part → Part

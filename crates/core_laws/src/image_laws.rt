@@ -6,10 +6,10 @@ ghost use Rattle.mat_model.specs.declared.entries.Event.TheVariants as event;
 ghost use Rattle.mat_model.specs.declared.entries.Task.{Task};
 ghost use Rattle.mat_model.specs.History.{Point, after, next_number};
 ghost use Rattle.mat_model.specs.WorkState.{Job, path_of_task, running};
+ghost use Rattle.model_laws.specs.KeptRules.{KeptAscend};
 ghost use Rattle.model_laws.specs.StoredRules.{IsStored, path_of_job};
-ghost use Rattle.model_laws.specs.WorkRules.{IsWork};
 ghost use Rattle.region_port.specs.Calls.{Paths, paths_below, paths_of_both, paths_outside};
-ghost use Rattle.core_laws.specs.DiskRules.{IsDisk};
+ghost use Rattle.core_laws.specs.DiskRules.{IsDisk, begun_unread};
 ghost use Rattle.core_laws.specs.Whole.{HaveLentTrees, IsImage, IsWhole, Regions};
 
 /// Each image of a disk that keeps its rules beside a point, with the jobs of the point, has each kept row whole without any loan.
@@ -30,15 +30,15 @@ pub fn given_task_image_is_whole()
         image later → IsWhole [] point.kept image later }
 {}
 
-/// So has each image once a begin has taken its task and before it takes the part that this reads: with the jobs of the point after it, the new one
-/// among them, and with this part, which the disk still has, as if it were out.
+/// So has each image once a begin has taken its task and before it takes the part that this reads: with the new job among the jobs, as if it read
+/// nothing.
 pub fn taken_task_image_is_whole()
     ensures { (spoken : ℕ → Bool) (point : Point) (entry : Entry) (begun : Task) (lent : List (List (List ℕ))) (regions : Regions)
-        (content image : Part) (rough later : Paths) → IsStored point.book.rows point.work.jobs point.kept →
-        entry.event ≡ event.Begin begun → entry.reply ≡ reply.Started →
-        IsWork (next_number (after point entry)) (after point entry).book.rows (after point entry).work →
+        (content image : Part) (rough later : Paths) → KeptAscend point.kept → entry.event ≡ event.Begin begun →
+        entry.reply ≡ reply.Started →
         IsStored (after point entry).book.rows (after point entry).work.jobs (after point entry).kept →
-        IsDisk spoken point lent content rough → HaveLentTrees (after point entry).work.jobs regions →
-        IsImage (after point entry).work.jobs regions (without (path_of_task begun) content) (paths_outside (path_of_task begun) rough)
-        image later → IsWhole [] (after point entry).kept image later }
+        IsDisk spoken point lent content rough → HaveLentTrees point.work.jobs regions →
+        IsImage (point.work.jobs ++ begun_unread (next_number point) entry.by.caller begun ∷ []) regions
+        (without (path_of_task begun) content) (paths_outside (path_of_task begun) rough) image later →
+        IsWhole [] (after point entry).kept image later }
 {}
