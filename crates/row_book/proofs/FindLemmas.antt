@@ -80,10 +80,10 @@ has_is (node ∷ nodes) rel = by (is_at_rel rel node) (has_is nodes rel)
     by true e = refl
     by false e = e
 
-some_is : {X : Type 0} (a b : X) → Some a ≡ Some b → a ≡ b
+pub some_is : {X : Type 0} (a b : X) → Some a ≡ Some b → a ≡ b
 some_is a b e = ap (λ o. option_map_or (λ x. x) o a) e
 
-none_is : {X : Type 0} (a : X) → Some a ≡ None → ⊥
+pub none_is : {X : Type 0} (a : X) → Some a ≡ None → ⊥
 none_is a e = cc
 
 -- a row covers a path where its tree has something at the rest

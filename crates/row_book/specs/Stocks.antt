@@ -64,21 +64,38 @@ held_of stock = if is_held_method stock.method then bytes_of stock.row.tree else
 abbrev pub held_bytes : List Stock → ℕ
 held_bytes stocks = sum_by held_of stocks
 
--- a stock whose row's last use is at a moment, if it is at the path
+-- a stock that is changed, if it is at a path
+abbrev pub changed_at : List (List ℕ) → (Stock → Stock) → Stock → Stock
+changed_at path change stock = if stock_at path stock then change stock else stock
+
+-- a stock whose row's last use is at a moment
+abbrev pub with_use : ℕ → Stock → Stock
+with_use moment stock = record stock { row = record stock.row { last = moment } }
+
+-- a stock whose row stands, so that its last make didn't fail
+abbrev pub with_stand : Stock → Stock
+with_stand stock = record stock { row = record stock.row { stands = true }; dirty = false }
+
+-- a stock with or without its mark
+abbrev pub with_mark : Bool → Stock → Stock
+with_mark dirty stock = record stock { dirty = dirty }
+
+-- a stock with another method
+abbrev pub with_method : Method → Stock → Stock
+with_method way stock = record stock { method = way }
+
+-- the same, if the stock is at a path
 abbrev pub used_stock : List (List ℕ) → ℕ → Stock → Stock
-used_stock path moment stock = if stock_at path stock then record stock { row = record stock.row { last = moment } } else stock
+used_stock path moment stock = changed_at path (with_use moment) stock
 
--- a stock whose row stands, so that its last make didn't fail, if it is at the path
 abbrev pub standing_stock : List (List ℕ) → Stock → Stock
-standing_stock path stock = if stock_at path stock then record stock { row = record stock.row { stands = true }; dirty = false } else stock
+standing_stock path stock = changed_at path with_stand stock
 
--- a stock with or without its mark, if it is at the path
 abbrev pub marked_stock : List (List ℕ) → Bool → Stock → Stock
-marked_stock path dirty stock = if stock_at path stock then record stock { dirty = dirty } else stock
+marked_stock path dirty stock = changed_at path (with_mark dirty) stock
 
--- a stock with another method, if it is at the path
 abbrev pub supplied_stock : List (List ℕ) → Method → Stock → Stock
-supplied_stock path way stock = if stock_at path stock then record stock { method = way } else stock
+supplied_stock path way stock = changed_at path (with_method way) stock
 
 -- a stock in its place, before the first one that comes after it
 abbrev pub put_stock : Stock → List Stock → List Stock

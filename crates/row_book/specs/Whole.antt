@@ -1,9 +1,9 @@
 -- How stocks stand in a trie, and what a book keeps beside it.
-use Rattle.std.specs.Prelude.{◌≡◌, ℕ, Bool, true, List, map, Option, Some, None}
+use Rattle.std.specs.Prelude.{◌≡◌, ℕ, Bool, true, if◌then◌else◌, List, map, Option, Some, None}
 use Rattle.std.specs.List.{filter_map, find, slice_get}
 use Rattle.mat_path.specs.Names.{is_prefix}
 use Rattle.mat_model.specs.Rows.{are_apart}
-use Rattle.path_trie.specs.Entries.{is_behind, is_next_under, is_under, value_of}
+use Rattle.path_trie.specs.Entries.{is_at, is_behind, is_next_under, is_under, value_of}
 use Rattle.path_trie.specs.declared.entry.Entry.{Entry}
 use Rattle.row_book.specs.declared.stock.Stock.{Stock}
 use Rattle.row_book.specs.Stocks.{held_bytes, rows_of}
@@ -15,6 +15,10 @@ Place = Entry (Option Stock)
 -- the place of a stock
 abbrev pub place_of : Stock → Place
 place_of stock = record { path = stock.row.path; value = Some stock }
+
+-- a place with another value, if it is at a path
+abbrev pub set_place : List (List ℕ) → Option Stock → Place → Place
+set_place path value place = if is_at path place then record place { value = value } else place
 
 -- the stocks of a trie
 abbrev pub stocks_of : List Place → List Stock

@@ -1,9 +1,10 @@
-ghost use Rattle.std.specs.Prelude.{◌≡◌, ◌+◌, ◌≤◌, ◌<◌, [], true, find, length, Option, Some, None};
+ghost use Rattle.std.specs.Prelude.{◌≡◌, ◌+◌, ◌≤◌, ◌<◌, ◌^◌, [], true, find, length, map, Option, Some, None};
 ghost use Rattle.std.specs.List.{list_any};
 ghost use Rattle.std.specs.Option.{option_copied, option_map};
-ghost use Rattle.mat_model.specs.Rows.{are_apart, cover, is_at_path, overlaps_row};
-ghost use Rattle.row_book.specs.Stocks.{covers_stock, held_bytes, is_next_overlap, is_past, overlaps_stock, row_of, rows_of, stock_at};
+ghost use Rattle.mat_model.specs.Rows.{are_apart, cover, is_at_path, overlaps_row, standing_row, used};
+ghost use Rattle.row_book.specs.Stocks.{covers_stock, held_bytes, is_next_overlap, is_past, marked_stock, row_of, rows_of, standing_stock, stock_at, supplied_stock, used_stock};
 
+use crate::changes::{mark_at, stand_at, supply_at, use_at};
 use crate::finds::{
     if_covering, if_past, stock_above, stock_at, stock_behind, stock_leading, stock_under,
 };
@@ -13,6 +14,7 @@ use path_trie::{Steps, Trie};
 use std::alloc::Global;
 use std::marker::{Brand, Model};
 use std::sync::ledger::{Blank, Ledger};
+use write_plan::Method;
 
 /// The rows in order of path, of which no two overlap, each with what is kept beside it.
 #[derive(Debug, Drop)]
@@ -130,5 +132,39 @@ impl RowBook {
         ensures { option_copied result ≡ find (is_past (option_map (λ path. path.now) last.entry)) self.now }
     {
         stock_behind(&self.trie, last)
+    }
+
+    /// Sets the last use of the row at exactly a path; where there is none, nothing changes.
+    pub fn touch(&mut self, path: &Path, moment: u64)
+        ensures stocks { self.new ≡ map (used_stock path.now moment) self.old }
+        ensures rows { rows_of self.new ≡ used path.now moment (rows_of self.old) }
+    {
+        use_at(&mut self.trie, path, moment);
+    }
+
+    /// The row at exactly a path stands from now on, and isn't dirty; where there is none, nothing changes.
+    pub fn stand(&mut self, path: &Path)
+        ensures stocks { self.new ≡ map (standing_stock path.now) self.old }
+        ensures rows { rows_of self.new ≡ map (standing_row path.now) (rows_of self.old) }
+    {
+        stand_at(&mut self.trie, path);
+    }
+
+    /// Sets whether the last make of the row at exactly a path failed; where there is none, nothing changes.
+    pub fn set_dirty(&mut self, path: &Path, dirty: bool)
+        ensures stocks { self.new ≡ map (marked_stock path.now dirty) self.old }
+        ensures rows { rows_of self.new ≡ rows_of self.old }
+    {
+        mark_at(&mut self.trie, path, dirty);
+    }
+
+    /// The bytes of the row at exactly a path come from elsewhere from now on; where there is no row, nothing changes. The bytes that
+    /// are held then are fewer than 2^64.
+    pub fn take_method(&mut self, path: &Path, method: Method)
+        requires few { held_bytes (map (supplied_stock path.now method) self.old) < 2 ^ 64 }
+        ensures stocks { self.new ≡ map (supplied_stock path.now method) self.old }
+        ensures rows { rows_of self.new ≡ rows_of self.old }
+    {
+        self.held = supply_at(&mut self.trie, self.held, path, method);
     }
 }

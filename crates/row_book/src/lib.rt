@@ -2,6 +2,7 @@
 #![tactic(auto)]
 
 mod book;
+mod changes;
 mod finds;
 mod laws;
 mod stock;

@@ -1,0 +1,16 @@
+use Rattle.std.proofs.Common.{refl, ap, ◌∙◌}
+use Rattle.row_book.specs.Stocks.{with_use, rows_of}
+use Rattle.row_book.proofs.ChangeLemmas.{list_changed, whole_changed}
+use Rattle.row_book.proofs.RowLemmas.{rows_used}
+use Rattle.row_book.proofs.book.RowBook.touch.Goals as goal
+
+pub invariant_of-self : goal.invariant_of-self
+invariant_of-self c =
+    whole_changed c.args.path.now (with_use c.args.moment) c.self.inside.trie c.use_at.new.trie c.self.inside.held (λ s. refl) (λ s. refl) c.self.invariant c.use_at.ensures
+
+pub returns-clause-stocks : goal.returns-clause-stocks
+returns-clause-stocks c =
+    list_changed c.args.path.now (with_use c.args.moment) c.self.inside.trie c.use_at.new.trie c.args.self.now _ c.self.view_is refl c.use_at.ensures
+
+pub returns-clause-rows : goal.returns-clause-rows
+returns-clause-rows c = ap rows_of (returns-clause-stocks c) ∙ rows_used c.args.path.now c.args.moment c.args.self.now
