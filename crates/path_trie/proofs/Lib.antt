@@ -6,12 +6,14 @@ pub mod Kept
 pub mod Lists
 pub mod Onwards
 pub mod Order
+pub mod Parted
 pub mod Picks
 pub mod Pulls
 pub mod RootLemmas
 pub mod Seeks
 pub mod Shortest
 pub mod ShownLemmas
+pub mod Splices
 pub mod Swaps
 pub mod Told
 pub mod Values

@@ -48,7 +48,7 @@ pub picked_shown : {V : Type 0} (root : Node (Entry V)) (now : List (Entry V)) (
     → list_all is_placed (below_node root) ≡ true → shown_all root ≡ now → o ≡ option_map value_of (slice_get (below_node root) k) → o ≡ slice_get now k
 picked_shown root now k o h v e = e ∙ get_shown (below_node root) k h ∙ ap (λ t. slice_get t k) v
 
-shown_length : {V : Type 0} (xs : List (Entry (Entry V))) → length xs ≡ length (map shown xs)
+pub shown_length : {V : Type 0} (xs : List (Entry (Entry V))) → length xs ≡ length (map shown xs)
 shown_length [] = refl
 shown_length (x ∷ xs) = let e = shown_length xs in omega (arith, e)
 
@@ -81,14 +81,14 @@ find_none p q f (x ∷ xs) h =
 turned : (p q : List (List ℕ)) → path_cmp p q ≡ Less → path_cmp q p ≡ Greater
 turned p q h = path_cmp_total.antisymm q p ∙ ap ordering_reverse h
 
-not_both : (p q : List (List ℕ)) → is_lt (path_cmp p q) ≡ true → is_lt (path_cmp q p) ≡ false
+pub not_both : (p q : List (List ℕ)) → is_lt (path_cmp p q) ≡ true → is_lt (path_cmp q p) ≡ false
 not_both p q h = ap is_lt (turned p q (lt_less (path_cmp p q) h))
 
 at_equal : (p q : List (List ℕ)) → same_names p q ≡ true → path_cmp q p ≡ Equal
 at_equal p q h = ap (λ t. path_cmp t p) (sym (same_names-eq p q h)) ∙ path_cmp-refl p
 
 -- a path between one and another below that is below it too
-between : (top p q : List (List ℕ)) → is_lt (path_cmp p top) ≡ false → is_lt (path_cmp p q) ≡ true → is_prefix top q ≡ true → is_prefix top p ≡ true
+pub between : (top p q : List (List ℕ)) → is_lt (path_cmp p top) ≡ false → is_lt (path_cmp p q) ≡ true → is_prefix top q ≡ true → is_prefix top p ≡ true
 between [] p q a b h = refl
 between (x ∷ top) p [] a b h = cc
 between (x ∷ top) [] (z ∷ q) a b h = cc
@@ -195,7 +195,7 @@ kept_under {V} top q past (x ∷ xs) h =
         ∙ sym (ap (λ b. cond (b && q x) (Some x) (find (λ e. is_under top e && q e) xs)) u)
 
 -- what is below a path isn't before it
-under_from : {V : Type 0} (top : List (List ℕ)) (e : Entry V) → is_under top e ≡ true → is_from top e ≡ true
+pub under_from : {V : Type 0} (top : List (List ℕ)) (e : Entry V) → is_under top e ≡ true → is_from top e ≡ true
 under_from top e h =
     elim (prefix_not_greater top e.path h) [
       | inl less ↦ ap not (not_both top e.path (ap is_lt less))
@@ -206,7 +206,7 @@ and_implied : (a b : Bool) → (a ≡ true → b ≡ true) → (a && b) ≡ a
 and_implied true b f = f refl
 and_implied false b f = refl
 
-not_true : (b : Bool) → not b ≡ true → b ≡ false
+pub not_true : (b : Bool) → not b ≡ true → b ≡ false
 not_true true h = cc
 not_true false h = refl
 

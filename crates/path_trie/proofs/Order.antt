@@ -46,3 +46,12 @@ asc_filter lt t (x ∷ xs) e = by (t x) (asc_filter lt t xs (second_so (list_all
     by : (b : Bool) → are_in_turn lt (filter t xs) ≡ true → are_in_turn lt (cond b (x ∷ filter t xs) (filter t xs)) ≡ true
     by true f = and_from (list_all (lt x) (filter t xs)) (are_in_turn lt (filter t xs)) (all_filter (lt x) t xs (first_so (list_all (lt x) xs) (are_in_turn lt xs) e)) f
     by false f = f
+
+-- two lists, where each element of the first is so to each of the second
+pub asc_join : {X : Type 0} (lt : X → X → Bool) (p q : X → Bool) → ((x y : X) → p x ≡ true → q y ≡ true → lt x y ≡ true) → (xs ys : List X)
+    → are_in_turn lt xs ≡ true → are_in_turn lt ys ≡ true → list_all p xs ≡ true → list_all q ys ≡ true → are_in_turn lt (xs ++ ys) ≡ true
+asc_join lt p q less [] ys f g h k = g
+asc_join lt p q less (x ∷ xs) ys f g h k =
+    and_from (list_all (lt x) (xs ++ ys)) (are_in_turn lt (xs ++ ys))
+    (all_join (lt x) xs ys (first_so (list_all (lt x) xs) (are_in_turn lt xs) f) (all_so q (lt x) (λ y e. less x y (first_so (p x) (list_all p xs) h) e) ys k))
+    (asc_join lt p q less xs ys (second_so (list_all (lt x) xs) (are_in_turn lt xs) f) g (second_so (p x) (list_all p xs) h) k)

@@ -30,6 +30,14 @@ is_from path entry = not (is_before path entry)
 abbrev pub is_under : {V : Type 0} → List (List ℕ) → Entry V → Bool
 is_under path entry = is_prefix path entry.path
 
+-- whether an entry is neither at a path nor below it
+abbrev pub is_outside : {V : Type 0} → List (List ℕ) → Entry V → Bool
+is_outside path entry = not (is_under path entry)
+
+-- whether an entry comes behind all that is at and below a path
+abbrev pub is_past : {V : Type 0} → List (List ℕ) → Entry V → Bool
+is_past path entry = is_behind path entry && not (is_under path entry)
+
 -- whether an entry is at or below a path, and comes behind another path
 abbrev pub is_next_under : {V : Type 0} → List (List ℕ) → List (List ℕ) → Entry V → Bool
 is_next_under top last entry = is_under top entry && is_behind last entry
@@ -81,6 +89,14 @@ put path value entries = filter (is_before path) entries ++ record { path = path
 -- the entries without the one at a path
 abbrev pub without : {V : Type 0} → List (List ℕ) → List (Entry V) → List (Entry V)
 without path entries = filter (is_elsewhere path) entries
+
+-- the entries with those that others have at and below a path, in place of their own
+abbrev pub spliced : {V : Type 0} → List (List ℕ) → List (Entry V) → List (Entry V) → List (Entry V)
+spliced path others entries = filter (is_before path) entries ++ (filter (is_under path) others ++ filter (is_past path) entries)
+
+-- the entries with one value at a path, in place of all that stood at and below it
+abbrev pub cut_at : {V : Type 0} → List (List ℕ) → V → List (Entry V) → List (Entry V)
+cut_at path mark entries = filter (is_before path) entries ++ record { path = path; value = mark } ∷ filter (is_past path) entries
 
 -- a list without the first of its elements that passes a test
 abbrev pub without_first : {X : Type 0} → (X → Bool) → List X → List X

@@ -3,6 +3,7 @@
 
 mod change;
 mod entry;
+mod exchange;
 mod find;
 mod laws;
 mod node;
@@ -15,7 +16,7 @@ mod trie;
 mod walk;
 
 pub use entry::Entry;
-pub use laws::cover_is_shortest;
+pub use laws::{a_part_hung_back, cover_is_shortest};
 pub use steps::Steps;
 pub use trie::Trie;
 

@@ -1,6 +1,6 @@
 ghost use Rattle.std.specs.Prelude.{◌≡◌, ◌<◌};
 
-use crate::{Entry, Steps, Trie, cover_is_shortest};
+use crate::{Entry, Steps, Trie, a_part_hung_back, cover_is_shortest};
 use mat_path::Path;
 use std::alloc::Global;
 use std::marker::Brand;
@@ -139,6 +139,47 @@ fn change_value(trie: &mut Trie<u64>, list: &mut [(Path, u64)], path: &Path, val
     }
 }
 
+/// Hangs a part in where it was cut out, and whether that can be.
+fn hung(trie: &mut Trie<u64>, path: &Path, part: Trie<u64>) -> bool {
+    if trie.count_under(path) == 0 {
+        return false;
+    }
+    if trie.len() > 1_000_000 || part.len() > 1_000_000 {
+        return false;
+    }
+    trie.hang(path, part);
+    true
+}
+
+/// How many entries of a list are at or below a path.
+fn under_count(list: &[(Path, u64)], path: &Path) -> usize {
+    list.iter().filter(|entry| path.is_prefix(&entry.0)).count()
+}
+
+/// Cuts out what a trie has at and below a path, and hangs it in again: whether the trie and the part had what a list has meanwhile.
+fn cut_and_hung(trie: &mut Trie<u64>, list: &[(Path, u64)], path: &Path, mark: u64) -> bool {
+    let below = under_count(list, path);
+    match trie.cut(path, mark) {
+        Ok(part) => {
+            let parted = part.len() == below
+                && value_of(part.first_under(path))
+                    == listed(list.iter().find(|entry| path.is_prefix(&entry.0)))
+                && trie.len().wrapping_add(below) == list.len().wrapping_add(1)
+                && trie.get(path) == Some(&mark);
+            parted && hung(trie, path, part)
+        }
+        Err(_) => false,
+    }
+}
+
+/// How many entries are cut out at and below a path, and the value of the first.
+fn first_cut(trie: &mut Trie<u64>, path: &Path) -> Option<(usize, Option<u64>)> {
+    match trie.cut(path, 9) {
+        Ok(part) => Some((part.len(), value_of(part.at(0)))),
+        Err(_) => None,
+    }
+}
+
 /// A trie with values at `a/b` and `c`.
 fn two_values(alloc: Global) -> Result<Trie<u64>, Fail> {
     let mut trie = Trie::new(alloc);
@@ -203,6 +244,34 @@ fn what_is_found_from_some_paths_on(rt: HostRuntime) -> Result<(), Fail> {
 }
 
 #[test]
+fn a_part_is_cut_out_and_another_is_hung_in(rt: HostRuntime) -> Result<(), Fail> {
+    let rows = [("a", 1, Some(1)), ("a/b", 1, Some(1)), ("a/c", 0, None)];
+    for (text, count, value) in rows {
+        let mut trie = two_values(rt.alloc())?;
+        let path = Path::read(rt.alloc(), text.as_bytes())?;
+        assert_eq!(rt;
+            first_cut(&mut trie, &path),
+            Some((count, value)),
+            "{text:?}"
+        );
+        assert_eq!(rt; trie.get(&path), Some(&9), "{text:?}");
+        let mut other: Trie<u64> = Trie::new(rt.alloc());
+        assert_eq!(rt;
+            other.insert(&Path::read(rt.alloc(), b"a/c/d")?, 5),
+            Ok(None)
+        );
+        assert!(rt; hung(&mut trie, &path, other));
+        assert_eq!(rt;
+            trie.count_under(&path),
+            if text == "a/b" { 0 } else { 1 },
+            "{text:?}"
+        );
+    }
+    a_part_hung_back::<u8>();
+    Ok(())
+}
+
+#[test]
 fn random_paths_against_a_sorted_list(rt: HostRuntime) -> Result<(), Fail> {
     let mut trie = Trie::new(rt.alloc());
     let mut list: Vec<(Path, u64)> = Vec::new(rt.alloc());
@@ -216,6 +285,8 @@ fn random_paths_against_a_sorted_list(rt: HostRuntime) -> Result<(), Fail> {
             assert!(rt; agree(&trie, &list, &asked)?);
             assert!(rt; agree_on_order(&trie, &list, &asked));
             assert!(rt; change_value(&mut trie, &mut list, &asked, turn + 20_000));
+            assert!(rt; cut_and_hung(&mut trie, list.as_slice(), &asked, turn));
+            assert!(rt; agree_on_order(&trie, &list, &asked));
         }
     }
     Ok(())

@@ -1,12 +1,13 @@
-ghost use Rattle.std.specs.Prelude.{◌≡◌, ◌+◌, ◌≤◌, [], true, is_ok, length, map, nat_eq, if◌then◌else◌, IfErr, IfOk, IfSome};
+ghost use Rattle.std.specs.Prelude.{◌≡◌, ◌+◌, ◌<◌, ◌≤◌, ◌^◌, ◌&&◌, [], true, is_ok, length, map, nat_eq, if◌then◌else◌, IfErr, IfOk, IfSome};
 ghost use Rattle.std.specs.List.{filter, find, list_any, slice_get};
 ghost use Rattle.std.specs.Option.{option_copied, option_map};
 ghost use Rattle.std.specs.Result.{result_ok};
 ghost use Rattle.path_trie.specs.Roots.{kept_if, value_put};
-ghost use Rattle.path_trie.specs.Entries.{ascends, both, cover_of, is_behind, is_from, is_high, is_next_under, is_under, overlaps, path_of, put, value_at, value_of, without, without_first};
+ghost use Rattle.path_trie.specs.Entries.{ascends, both, cover_of, cut_at, is_behind, is_from, is_high, is_next_under, is_outside, is_under, overlaps, path_of, put, spliced, value_at, value_of, without, without_first};
 
 use crate::change::{put_at, take_at};
 use crate::entry::Entry;
+use crate::exchange::exchange_at;
 use crate::find::{count_at, get_at};
 use crate::node::Node;
 use crate::pick::value_at;
@@ -105,6 +106,72 @@ impl<V: Drop> Trie<V> {
         ensures entry { result ≡ find (is_under path.now) self.old }
     {
         pull_at(&mut self.root, path.names())
+    }
+
+    /// Takes all entries at and below a path away, one by one. Takes no memory.
+    pub fn clear_under(&mut self, path: &Path)
+        ensures { self.new ≡ filter (is_outside path.now) self.old }
+    {
+        'entries: while self.take_under(path).is_some() {}
+    }
+
+    /// Exchanges what two maps have at and below a path, if both have something there, and says whether they do; else nothing changes.
+    /// It costs the path's names, however much lies below it. Takes no memory.
+    pub fn exchange(&mut self, other: &mut Trie<V>, path: &Path) -> bool
+        requires room { length self.old + length other.old < 2 ^ 64 }
+        ensures both { result ≡ (list_any (is_under path.now) self.old && list_any (is_under path.now) other.old) }
+        ensures list { self.new ≡ (if result then spliced path.now other.old self.old else self.old) }
+        ensures other { other.new ≡ (if result then spliced path.now self.old other.old else other.old) }
+    {
+        let given = count_at(&self.root, path.names());
+        if given == 0 {
+            return false;
+        }
+        let got = count_at(&other.root, path.names());
+        if got == 0 {
+            return false;
+        }
+        exchange_at(&mut self.root, &mut other.root, path.names(), given, got);
+        true
+    }
+
+    /// Cuts out all that is at and below a path, gives it, and leaves a mark at the path. It costs the path's names, however much lies
+    /// below it. For want of memory it gives the mark back, and nothing changes.
+    pub fn cut(&mut self, path: &Path, mark: V) -> Result<Trie<V>, V>
+        ensures list { self.new ≡ (if is_ok result then cut_at path.now mark self.old else self.old) }
+        ensures part { IfOk result (λ part. part ≡ filter (is_under path.now) self.old) }
+        ensures back { IfErr result (λ back. back ≡ mark) }
+    {
+        let mut part = Trie::new(self.alloc);
+        if self.root.len() == usize::MAX {
+            return Err(mark);
+        }
+        if self.count_under(path) == 0 {
+            return match self.insert(path, mark) {
+                Ok(_) => Ok(part),
+                Err(mark) => Err(mark),
+            };
+        }
+        match part.insert(path, mark) {
+            Ok(_) => {
+                self.exchange(&mut part, path);
+                Ok(part)
+            }
+            Err(mark) => Err(mark),
+        }
+    }
+
+    /// Hangs a part in at a path: what it has at and below the path takes the place of what stood there, which is a mark at least, and
+    /// is dropped. It costs the path's names and what is dropped. Takes no memory.
+    pub fn hang(&mut self, path: &Path, mut part: Trie<V>)
+        requires there { list_any (is_under path.now) self.old ≡ true }
+        requires room { length self.old + length part < 2 ^ 64 }
+        ensures { self.new ≡ spliced path.now part self.old }
+    {
+        self.is_in_order();
+        if !self.exchange(&mut part, path) {
+            self.clear_under(path);
+        }
     }
 
     /// The value at a path, if one stands there. Takes no memory.
