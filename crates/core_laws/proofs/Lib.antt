@@ -15,3 +15,7 @@ pub mod RuleMoves
 pub mod BeginMoves
 pub mod EndMoves
 pub mod ImageMoves
+pub mod StoreLemmas
+pub mod StoreSteps
+pub mod StoreMoves
+pub mod CountLemmas

@@ -1,16 +1,21 @@
 -- The rows of the state store beside the kept rows of a point, and the counts of faults beside a history.
-use Rattle.std.specs.Prelude.{◌≡◌, ◌≤◌, ℕ, true, if◌then◌else◌, List, Option, Some, None}
-use Rattle.std.specs.List.{Contains}
-use Rattle.mat_path.specs.Names.{joined}
-use Rattle.mat_model.specs.declared.answers.Device.{Device}
+use Rattle.std.specs.Prelude.{◌≡◌, ◌≤◌, ◌&&◌, ◌⊎◌, ℕ, Bool, true, false, not, if◌then◌else◌, List, Option, Some, None}
+use Rattle.std.specs.List.{Contains, list_any}
+use Rattle.mat_path.specs.Names.{is_path, joined, path_of, same_names}
 use Rattle.mat_model.specs.declared.answers.Device.TheVariants as device
 use Rattle.mat_model.specs.declared.answers.FaultNote.{FaultNote}
+use Rattle.mat_model.specs.declared.answers.Recorded.{Recorded}
+use Rattle.mat_model.specs.declared.answers.Recorded.TheVariants as recorded
+use Rattle.mat_model.specs.declared.answers.Reply.{Reply}
+use Rattle.mat_model.specs.declared.answers.Reply.TheVariants as reply
+use Rattle.mat_model.specs.declared.book.Row.{Row}
 use Rattle.mat_model.specs.declared.entries.Entry.{Entry}
-use Rattle.mat_model.specs.Kept.{KeptRow}
+use Rattle.mat_model.specs.Kept.{KeptRow, kept_row}
 use Rattle.mat_model.specs.Legal.{count_behind, note_of_end}
 use Rattle.keep_port.specs.Rows.{ascend}
 use Rattle.keep_port.specs.declared.row.RawRow.{RawRow}
-use Rattle.row_bytes.specs.Rows.{row_bytes}
+use Rattle.keep_port.specs.declared.row.Touch.{Touch}
+use Rattle.row_bytes.specs.Rows.{IsRow, row_bytes}
 
 -- ---- rows
 
@@ -33,17 +38,105 @@ pub record IsStore (identity : ℕ) (kept : List KeptRow) (rows : List RawRow) :
   pub order : ascend rows ≡ true
   pub each : (one : KeptRow) → Contains kept one → Contains rows (raw_row identity one)
   pub others : (raw : RawRow) → Contains rows raw → IsOneOf identity kept raw
+  -- each of them is at a path, so that no other one has the text of its path
+  pub paths : (one : KeptRow) → Contains kept one → is_path one.path ≡ true
+
+-- ---- rows that are removed
+
+-- a kept row is left where those that a test finds are removed
+abbrev pub is_left : (KeptRow → Bool) → KeptRow → Bool
+is_left drops kept = not (drops kept)
+
+-- some paths name, of the kept rows, exactly those that a test finds
+pub record AreDropped (drops : KeptRow → Bool) (kept : List KeptRow) (paths : List (List (List ℕ))) : Type 0 where
+  pub exact : (one : KeptRow) → Contains kept one → list_any (same_names one.path) paths ≡ drops one
+  pub placed : (path : List (List ℕ)) → Contains paths path → is_path path ≡ true
+
+-- ---- rows that are stored
+
+-- a row as the state store has it once it is stored, and the new last use of one that it has already
+abbrev pub raw_of : ℕ → Row → RawRow
+raw_of identity row = raw_row identity (kept_row row)
+
+abbrev pub touch_of : Row → Touch
+touch_of row = record { path = row.path; last = row.last }
+
+-- whether a kept row is at a row's path, in the version that is written now
+abbrev pub is_new_at : Row → KeptRow → Bool
+is_new_at row kept = same_names kept.path row.path && kept.new
+
+-- whether the state store has a row's bytes already, but for its last use, where a kept row at the path of a row that stands has its tree
+abbrev pub has_bytes : List KeptRow → Row → Bool
+has_bytes kept row = list_any (is_new_at row) kept
+
+-- whether a row's bytes are to be written
+abbrev pub wants_bytes : List KeptRow → Row → Bool
+wants_bytes kept row = not (has_bytes kept row)
+
+-- rows that are to be stored are split into those whose bytes are written, and those that the state store has, which only get another last use
+pub record AreSplit (kept : List KeptRow) (some written touched : List Row) : Type 0 where
+  pub each : (row : Row) → Contains some row → Contains written row ⊎ Contains touched row
+  pub puts : (row : Row) → Contains written row → Contains some row
+  pub touches : (row : Row) → Contains touched row → Contains some row
+  pub stored : (row : Row) → Contains touched row → has_bytes kept row ≡ true
+
+-- ---- rows that are told
+
+-- a row that the state store tells is read as a kept one: its path is spelled so, and its bytes are a row of its tree, with the daemon's identity or none
+pub record IsReadAs (identity : ℕ) (raw : RawRow) (kept : KeptRow) : Type 0 where
+  pub path : path_of raw.path ≡ Some kept.path
+  pub body : IsRow raw.body (record { tree = kept.tree; identity = identity_of identity kept })
+  pub last : raw.last ≡ kept.last
+
+-- a row that is told is read as one of some kept rows
+pub record IsReadAmong (identity : ℕ) (kept : List KeptRow) (raw : RawRow) : Type 0 where
+  pub one : KeptRow
+  pub among : Contains kept one
+  pub read : IsReadAs identity raw one
+
+-- a kept row is read from one of the rows that are told
+pub record IsReadFrom (identity : ℕ) (rows : List RawRow) (kept : KeptRow) : Type 0 where
+  pub raw : RawRow
+  pub among : Contains rows raw
+  pub read : IsReadAs identity raw kept
+
+-- ---- entries that leave the kept rows
+
+-- whether the reply to the end of a job, and whether any reply, says that the kept rows are as they were
+abbrev pub leaves_by : Recorded → Bool
+leaves_by recorded.Kept = false
+leaves_by (recorded.NotKept note) = true
+leaves_by recorded.NoMemory = true
+leaves_by recorded.Nothing = true
+
+abbrev pub leaves_kept : Reply → Bool
+leaves_kept (reply.Invalid count) = false
+leaves_kept (reply.Cleaned dry gone strays) = dry
+leaves_kept (reply.Flushed count) = false
+leaves_kept reply.Started = false
+leaves_kept (reply.Fresh how) = leaves_by how
+leaves_kept _ = true
 
 -- ---- counts
 
--- a count that has risen at least once, where a note is of the disk
+-- a count isn't 0, where a note is of the disk
 abbrev pub HasDiskRisen : ℕ → Option FaultNote → Type 0
 HasDiskRisen count None = Unit {0}
 HasDiskRisen count (Some note) = note.device ≡ device.Disk → 1 ≤ count
 
+-- a note, if there is one, ends at most at a count
+abbrev pub IsNoteWithin : ℕ → Option FaultNote → Type 0
+IsNoteWithin count None = Unit {0}
+IsNoteWithin count (Some note) = note.after ≤ count
+
+-- the same of the disk's count, if it is of the disk
+abbrev pub IsDiskNoteWithin : ℕ → Option FaultNote → Type 0
+IsDiskNoteWithin count None = Unit {0}
+IsDiskNoteWithin count (Some note) = note.device ≡ device.Disk → note.after ≤ count
+
 -- the counts of the state store and of the disk are not behind a history
-pub record AreCounted (history : List Entry) (keeper disk : ℕ) : Type 0 where
+pub record AreCounted (history : List Entry) (of_keeper of_disk : ℕ) : Type 0 where
   -- that of the state store is at least the last one that a reply told of it
-  pub notes : count_behind 0 history ≤ keeper
+  pub keeper : count_behind 0 history ≤ of_keeper
   -- that of the disk isn't 0 where a job ended with a failure of the disk
-  pub ends : (entry : Entry) → Contains history entry → HasDiskRisen disk (note_of_end entry.event)
+  pub disk : (entry : Entry) → Contains history entry → HasDiskRisen of_disk (note_of_end entry.event)

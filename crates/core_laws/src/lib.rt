@@ -2,6 +2,7 @@
 #![tactic(auto)]
 
 mod begin_laws;
+pub mod count_laws;
 mod covered_laws;
 mod crash_laws;
 mod disk_laws;
@@ -13,6 +14,7 @@ mod opening_laws;
 mod place_laws;
 mod point_laws;
 mod rule_laws;
+pub mod store_laws;
 mod tied_disk_laws;
 mod tied_laws;
 mod whole_laws;
