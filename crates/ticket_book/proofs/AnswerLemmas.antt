@@ -1,10 +1,10 @@
 -- The rules of a book's tickets, where one comes and where some are answered.
-use Rattle.std.proofs.Common.{◌≡◌, ◌+◌, ◌<◌, ◌≤◌, ℕ, suc, nat_lt, Bool, true, false, not, ◌&&◌, cond, List, [], ◌∷◌, ◌++◌, map, take, drop, get_or, length, length-append, refl, ◌∙◌, sym, ap, subst, arith, count_by}
+use Rattle.std.proofs.Common.{◌≡◌, ◌+◌, ◌<◌, ◌≤◌, ℕ, suc, nat_lt, Bool, true, false, not, ◌&&◌, cond, List, [], ◌∷◌, ◌++◌, map, take, get_or, length, length-append, refl, ◌∙◌, sym, ap, subst, arith, count_by}
 use Rattle.std.proofs.lemmas.Bool.{and_from, and_parts}
-use Rattle.std.proofs.lemmas.List.{append_assoc, length-map, map-append}
+use Rattle.std.proofs.lemmas.List.{length-map, map-append}
 use Rattle.std.proofs.lemmas.List.Elements.{filter-append}
 use Rattle.std.proofs.lemmas.List.Sums.{length-filter, sum_by-append, sum_by-cons}
-use Rattle.std.proofs.Math.Seq.{drop-cons, take-suc}
+use Rattle.std.proofs.Math.Seq.{take-suc}
 use Rattle.std.specs.List.{filter, list_all}
 use Rattle.mat_model.specs.declared.answers.Answer.{Answer}
 use Rattle.mat_model.specs.declared.book.Ticket.{Ticket}
@@ -157,16 +157,6 @@ room_for test tickets room are enough =
 
 -- ---- one after the other
 
--- what is due from a place on
-pub due_next : (test : Ticket → Bool) (ts : List Ticket) (k : ℕ) (d : Ticket) → k < length ts → d ≡ get_or ts k d
-    → count_by (is_due test) (drop k ts) ≡ cond (is_due test d) 1 0 + count_by (is_due test) (drop (k + 1) ts)
-due_next test ts k d within is =
-    let next : suc k ≡ k + 1 = omega arith in
-    ap (λ (xs : List Ticket). count_by (is_due test) xs) (drop-cons ts k d within)
-    ∙ counted_cons (is_due test) (get_or ts k d) (drop (suc k) ts)
-    ∙ ap (λ (x : Ticket). cond (is_due test x) 1 0 + count_by (is_due test) (drop (suc k) ts)) (sym is)
-    ∙ ap (λ (n : ℕ). cond (is_due test d) 1 0 + count_by (is_due test) (drop n ts)) next
-
 -- the numbers up to a place
 pub listed_next : (test : Ticket → Bool) (ts : List Ticket) (k : ℕ) (d : Ticket) → k < length ts → d ≡ get_or ts k d
     → map number_of (filter (is_due test) (take (k + 1) ts))
@@ -195,32 +185,3 @@ answered_rules test at given all news answered numbers are is listed =
 
 pub answered_size : (test : Ticket → Bool) (at : ℕ) (given : Answer) (all news : List Ticket) → news ≡ map (answered_if test at given) all → length news ≡ length all
 answered_size test at given all news is = ap (λ (ts : List Ticket). length ts) is ∙ length-map all (answered_if test at given)
-
--- one more of the numbers, where the list is given by what it became
-pub listed_more : (test : Ticket → Bool) (ts : List Ticket) (k : ℕ) (d : Ticket) (first now new : List ℕ) → k < length ts → d ≡ get_or ts k d
-    → now ≡ first ++ map number_of (filter (is_due test) (take k ts)) → new ≡ now ++ cond (is_due test d) (number_of d ∷ []) []
-    → new ≡ first ++ map number_of (filter (is_due test) (take (k + 1) ts))
-listed_more test ts k d first now new within is before more =
-    more ∙ ap (λ (ns : List ℕ). ns ++ cond (is_due test d) (number_of d ∷ []) []) before
-    ∙ append_assoc first (map number_of (filter (is_due test) (take k ts))) (cond (is_due test d) (number_of d ∷ []) [])
-    ∙ ap (λ (ns : List ℕ). first ++ ns) (sym (listed_next test ts k d within is))
-
--- and the room that is left
-pub room_next : (test : Ticket → Bool) (ts : List Ticket) (k : ℕ) (d : Ticket) (now new : List ℕ) (room : ℕ) → k < length ts → d ≡ get_or ts k d
-    → new ≡ now ++ cond (is_due test d) (number_of d ∷ []) [] → length now + count_by (is_due test) (drop k ts) ≤ room
-    → length new + count_by (is_due test) (drop (k + 1) ts) ≤ room
-room_next test ts k d now new room within is more enough =
-    let next = due_next test ts k d within is in
-    let long = ap (λ (ns : List ℕ). length ns) more ∙ length-append now (cond (is_due test d) (number_of d ∷ []) []) in
-    let one = single (is_due test d) in omega (arith, next, long, one, enough)
-  where
-    single : (b : Bool) → length (cond b (number_of d ∷ []) []) ≡ cond b 1 0
-    single true = refl
-    single false = refl
-
--- there is room for one that is due
-pub room_here : (test : Ticket → Bool) (ts : List Ticket) (k : ℕ) (d : Ticket) (now : List ℕ) (room : ℕ) → k < length ts → d ≡ get_or ts k d
-    → length now + count_by (is_due test) (drop k ts) ≤ room → is_due test d ≡ true → length now < room
-room_here test ts k d now room within is enough due =
-    let next = due_next test ts k d within is in
-    let one : ◌≡◌ {A = ℕ} (cond (is_due test d) 1 0) 1 = ap (λ (b : Bool). cond {A = ℕ} b 1 0) due in omega (arith, next, one, enough)

@@ -1,20 +1,15 @@
 -- Tickets that are answered stay as they are, and are never due.
-use Rattle.std.proofs.Common.{◌≡◌, ◌+◌, ◌<◌, ℕ, suc, Bool, true, false, not, ◌&&◌, cond, List, [], ◌∷◌, ◌++◌, map, take, drop, get_or, slice_set, length, length-append, refl, ◌∙◌, sym, ap, arith, count_by, Option, Some, None}
-use Rattle.std.proofs.lemmas.Bool.{and_from, and_parts}
+use Rattle.std.proofs.Common.{◌≡◌, ℕ, Bool, true, false, not, ◌&&◌, cond, List, [], ◌∷◌, ◌++◌, map, take, drop, length, length-append, refl, ◌∙◌, sym, ap, arith, Option, Some, None}
+use Rattle.std.proofs.lemmas.Bool.{and_parts}
 use Rattle.std.proofs.lemmas.List.{length-map, length-take, map-append, take-append-drop, take-append-le, take_all}
-use Rattle.std.proofs.lemmas.List.Edits.{map_over_more}
-use Rattle.std.proofs.lemmas.List.Elements.{filter-append}
-use Rattle.std.proofs.lemmas.List.Folds.{find-append, list_all-append}
-use Rattle.std.proofs.lemmas.List.Sums.{length-filter}
-use Rattle.std.proofs.Math.Seq.{take-suc}
-use Rattle.std.specs.List.{filter, find, list_all}
+use Rattle.std.proofs.lemmas.List.Folds.{find-append}
+use Rattle.std.specs.List.{find, list_all}
 use Rattle.std.specs.Option.{option_map, option_or}
 use Rattle.mat_model.specs.Books.{number_of}
 use Rattle.mat_model.specs.declared.answers.Answer.{Answer}
 use Rattle.mat_model.specs.declared.book.Ticket.{Ticket}
 use Rattle.mat_model.specs.Tickets.{is_open, with_answer}
-use Rattle.mat_model.specs.Requests.{is_open_of}
-use Rattle.ticket_book.specs.Asked.{answered_if, asks_for, is_due, lowest}
+use Rattle.ticket_book.specs.Asked.{answered_if, is_due, lowest}
 use Rattle.ticket_book.specs.Done.{IsDone, is_shut}
 
 -- ---- answered tickets
@@ -33,12 +28,6 @@ map_shut test at given (x ∷ ts) all =
     ap (λ (b : Bool). cond b (with_answer at given x) x ∷ map (answered_if test at given) ts) (shut_not_due test x parts.0)
     ∙ ap (λ (xs : List Ticket). x ∷ xs) (map_shut test at given ts parts.1)
 
-pub filter_shut : (test : Ticket → Bool) (ts : List Ticket) → list_all is_shut ts ≡ true → filter (is_due test) ts ≡ []
-filter_shut test [] all = refl
-filter_shut test (x ∷ ts) all =
-    let parts = and_parts (is_shut x) (list_all is_shut ts) all in
-    ap (λ (b : Bool). cond b (x ∷ filter (is_due test) ts) (filter (is_due test) ts)) (shut_not_due test x parts.0) ∙ filter_shut test ts parts.1
-
 find_shut : (test : Ticket → Bool) (ts : List Ticket) → list_all is_shut ts ≡ true → find (is_due test) ts ≡ None
 find_shut test [] all = refl
 find_shut test (x ∷ ts) all =
@@ -47,32 +36,14 @@ find_shut test (x ∷ ts) all =
 
 -- ---- those from a place on, before which none is open
 
-pub filter_rest : (test : Ticket → Bool) (ts : List Ticket) (d : ℕ) → IsDone d ts → filter (is_due test) (drop d ts) ≡ filter (is_due test) ts
-filter_rest test ts d done =
-    ap (λ (xs : List Ticket). xs ++ filter (is_due test) (drop d ts)) (sym (filter_shut test (take d ts) done.1))
-    ∙ sym (filter-append (is_due test) (take d ts) (drop d ts))
-    ∙ ap (filter (is_due test)) (take-append-drop d ts)
-
 pub find_rest : (test : Ticket → Bool) (ts : List Ticket) (d : ℕ) → IsDone d ts → find (is_due test) (drop d ts) ≡ find (is_due test) ts
 find_rest test ts d done =
     ap (λ (o : Option Ticket). option_or o (find (is_due test) (drop d ts))) (sym (find_shut test (take d ts) done.1))
     ∙ sym (find-append (is_due test) (take d ts) (drop d ts))
     ∙ ap (find (is_due test)) (take-append-drop d ts)
 
-pub count_rest : (test : Ticket → Bool) (ts : List Ticket) (d : ℕ) → IsDone d ts → count_by (is_due test) (drop d ts) ≡ count_by (is_due test) ts
-count_rest test ts d done =
-    sym (length-filter (is_due test) (drop d ts)) ∙ ap (λ (xs : List Ticket). length xs) (filter_rest test ts d done) ∙ length-filter (is_due test) ts
-
-pub map_rest : (test : Ticket → Bool) (at : ℕ) (given : Answer) (ts : List Ticket) (d : ℕ) → IsDone d ts
-    → ts ≡ map (answered_if test at given) (take d ts) ++ drop d ts
-map_rest test at given ts d done =
-    sym (take-append-drop d ts) ∙ ap (λ (xs : List Ticket). xs ++ drop d ts) (sym (map_shut test at given (take d ts) done.1))
-
 pub lowest_rest : (test : Ticket → Bool) (ts rest : List Ticket) (d : ℕ) → IsDone d ts → rest ≡ drop d ts → lowest test rest ≡ lowest test ts
 lowest_rest test ts rest d done is = ap (lowest test) is ∙ ap (option_map number_of) (find_rest test ts d done)
-
-pub open_rest : (command : ℕ) (ts rest : List Ticket) (d : ℕ) → IsDone d ts → rest ≡ drop d ts → count_by (is_open_of command) rest ≡ count_by (is_open_of command) ts
-open_rest command ts rest d done is = ap (λ (xs : List Ticket). count_by (is_open_of command) xs) is ∙ count_rest (asks_for command) ts d done
 
 -- ---- the place
 
@@ -100,22 +71,4 @@ done_asked ts news t d done is =
     let within = done.0 in
     (omega (arith, size, within), ap (λ (xs : List Ticket). list_all is_shut (take d xs)) is ∙ ap (list_all is_shut) (take-append-le d ts (t ∷ []) done.0) ∙ done.1)
 
--- it goes on over a ticket that is answered
-pub done_more : (ts : List Ticket) (d : ℕ) (t : Ticket) → IsDone d ts → d < length ts → t ≡ get_or ts d t → is_open t ≡ false → IsDone (d + 1) ts
-done_more ts d t done within is shut =
-    let next : d + 1 ≡ suc d = omega arith in (
-      omega (arith, within),
-      ap (λ (n : ℕ). list_all is_shut (take n ts)) next
-          ∙ ap (list_all is_shut) (take-suc ts d t within)
-          ∙ list_all-append is_shut (take d ts) (get_or ts d t ∷ [])
-          ∙ and_from (list_all is_shut (take d ts)) (is_shut (get_or ts d t) && true) done.1
-          (and_from (is_shut (get_or ts d t)) true (ap is_shut (sym is) ∙ ap not shut) refl),
-    )
-
 -- ---- one after the other
-
-pub answered_next : (test : Ticket → Bool) (at : ℕ) (given : Answer) (ts now : List Ticket) (k : ℕ) (old new : Ticket) → k < length ts
-    → now ≡ map (answered_if test at given) (take k ts) ++ drop k ts → old ≡ get_or now k old → new ≡ answered_if test at given old
-    → slice_set now k new ≡ map (answered_if test at given) (take (k + 1) ts) ++ drop (k + 1) ts
-answered_next test at given ts now k old new within before is after =
-    ap (λ (t : Ticket). slice_set now k t) after ∙ map_over_more (answered_if test at given) ts now k old within before is

@@ -3,5 +3,9 @@ pub mod ByPathLemmas
 pub mod DoneLemmas
 pub mod DueLemmas
 pub mod FoundLemmas
+pub mod IndexLemmas
+pub mod NumberLemmas
 pub mod OneLemmas
 pub mod RowLemmas
+pub mod SettleLemmas
+pub mod WalkLemmas

@@ -1,39 +1,33 @@
 -- Numbers that are taken out of order are put in order, and their tickets answered one by one.
-use Rattle.std.proofs.Common.{◌≡◌, ◌+◌, ◌<◌, ◌≤◌, ℕ, suc, nat_lt, nat_le, ◌==◌, Bool, true, false, not, ◌&&◌, ◌||◌, cond, List, [], ◌∷◌, ◌++◌, map, take, drop, get_or, slice_set, length, refl, ◌∙◌, sym, ap, arith, count_by, None}
+use Rattle.std.proofs.Common.{◌≡◌, ◌+◌, ◌<◌, ◌≤◌, ℕ, suc, nat_lt, nat_le, ◌==◌, Bool, true, false, not, ◌&&◌, ◌||◌, cond, List, [], ◌∷◌, ◌++◌, map, take, drop, get_or, slice_set, length, refl, ◌∙◌, sym, ap, arith, count_by}
 use Rattle.std.proofs.lemmas.Bool.{and_from, and_parts, eqb-true, eq-eqb, le-leb, leb-false, leb-true, ne_eqb}
-use Rattle.std.proofs.lemmas.List.{length-map, map-append, take-append-drop, take-append-le, take_all}
+use Rattle.std.proofs.lemmas.List.{map-append, take-append-drop, take_all}
 use Rattle.std.proofs.lemmas.List.Edits.{map_over_more}
 use Rattle.std.proofs.lemmas.List.Folds.{list_any-append}
-use Rattle.std.proofs.lemmas.List.Sorted.{IsNonDecreasingBy-drop, IsNonDecreasingBy-from_sort, sum_by-IsPermutation}
-use Rattle.std.proofs.lemmas.List.Sums.{length-filter, sum_by-cons}
-use Rattle.std.proofs.Math.Seq.{drop-append_seam, drop-cons, take-suc}
-use Rattle.std.specs.List.{filter, list_all, list_any, sum_by}
-use Rattle.std.specs.List.Sorted.{IsNonDecreasingBy, IsPermutation, IsSorted}
-use Rattle.std.specs.Option.{option_map}
-use Rattle.std.specs.Ordering.{nat_cmp}
-use Rattle.std.specs.declared.vec.Vec.{Vec}
+use Rattle.std.proofs.lemmas.List.Sorted.{IsNonDecreasingBy-drop}
+use Rattle.std.proofs.Math.Seq.{drop-cons, take-suc}
+use Rattle.std.specs.List.{list_all, list_any}
+use Rattle.std.specs.List.Sorted.{IsNonDecreasingBy}
 use Rattle.mat_model.specs.declared.answers.Answer.{Answer}
 use Rattle.mat_model.specs.declared.book.Ticket.{Ticket}
 use Rattle.mat_model.specs.Books.{are_ascending, number_of}
 use Rattle.mat_model.specs.Tickets.{is_open, with_answer}
-use Rattle.path_trie.specs.declared.entry.Entry.{Entry}
-use Rattle.path_trie.specs.Entries.{ascends, is_under}
-use Rattle.path_trie.proofs.Lists.{all_from, all_so, find_first, first_of}
-use Rattle.ticket_book.specs.Asked.{Tickets, answer_all, answered_if, asks_below, has_number, is_due, is_earlier, is_same, lowest}
+use Rattle.path_trie.proofs.Lists.{all_from, all_so}
+use Rattle.ticket_book.specs.Asked.{answered_if, has_number, is_due, is_earlier, is_same}
 use Rattle.ticket_book.specs.Found.{is_past}
-use Rattle.ticket_book.specs.ByPath.{IsIndexed, all_numbers, due_numbers, is_among}
+use Rattle.ticket_book.specs.ByPath.{due_numbers, is_among}
 use Rattle.ticket_book.proofs.AnswerLemmas.{numbers_cons, numbers_same}
-use Rattle.ticket_book.proofs.DueLemmas.{due_cons, index_whole}
+use Rattle.ticket_book.proofs.DueLemmas.{due_cons}
 use Rattle.ticket_book.proofs.FoundLemmas.{ascending_drop}
 
 -- ---- numbers in order
 
 -- whether numbers never fall
-abbrev never_fall : List ℕ → Bool
+abbrev pub never_fall : List ℕ → Bool
 never_fall [] = true
 never_fall (n ∷ ns) = list_all (nat_le n) ns && never_fall ns
 
-never_falls : (ns : List ℕ) → IsNonDecreasingBy (λ (n : ℕ). n) ns → never_fall ns ≡ true
+pub never_falls : (ns : List ℕ) → IsNonDecreasingBy (λ (n : ℕ). n) ns → never_fall ns ≡ true
 never_falls [] rise = refl
 never_falls (n ∷ ns) rise =
     and_from (list_all (nat_le n) ns) (never_fall ns)
@@ -41,7 +35,7 @@ never_falls (n ∷ ns) rise =
     (never_falls ns (IsNonDecreasingBy-drop (λ (m : ℕ). m) 1 (n ∷ ns) rise))
 
 -- a number that is in a list is no lower than what all of them are no lower than
-least_in : (m n : ℕ) (ns : List ℕ) → list_all (nat_le m) ns ≡ true → 1 ≤ count_by (is_same n) ns → m ≤ n
+pub least_in : (m n : ℕ) (ns : List ℕ) → list_all (nat_le m) ns ≡ true → 1 ≤ count_by (is_same n) ns → m ≤ n
 least_in m n [] all some = absurd (omega (arith, some))
 least_in m n (x ∷ ns) all some =
     let parts = and_parts (nat_le m x) (list_all (nat_le m) ns) all in by (is_same n x) refl parts.0 (numbers_cons n x ns) (least_in m n ns parts.1)
@@ -54,7 +48,7 @@ least_in m n (x ∷ ns) all some =
     by false other low count more =
         let none : ◌≡◌ {A = ℕ} (cond (is_same n x) 1 0) 0 = ap (λ b. cond {A = ℕ} b 1 0) other in more (omega (arith, count, none, some))
 
-itself_in : (n : ℕ) (ns : List ℕ) → 1 ≤ count_by (is_same n) (n ∷ ns)
+pub itself_in : (n : ℕ) (ns : List ℕ) → 1 ≤ count_by (is_same n) (n ∷ ns)
 itself_in n ns =
     let a = numbers_cons n n ns in
     let b : ◌≡◌ {A = ℕ} (cond (is_same n n) 1 0) 1 = ap (λ (b : Bool). cond {A = ℕ} b 1 0) (eq-eqb n n refl) in omega (arith, a, b)
@@ -62,11 +56,11 @@ itself_in n ns =
 itself_least : (n : ℕ) (ns : List ℕ) → list_all (nat_le n) ns ≡ true → list_all (nat_le n) (n ∷ ns) ≡ true
 itself_least n ns all = and_from (nat_le n n) (list_all (nat_le n) ns) (le-leb n n (omega arith)) all
 
-less_least : (n : ℕ) (ns : List ℕ) → list_all (nat_lt n) ns ≡ true → list_all (nat_le n) ns ≡ true
+pub less_least : (n : ℕ) (ns : List ℕ) → list_all (nat_lt n) ns ≡ true → list_all (nat_le n) ns ≡ true
 less_least n ns all = all_so (nat_lt n) (nat_le n) (λ m less. let so = leb-true (suc n) m less in le-leb n m (omega (arith, so))) ns all
 
 -- numbers that never fall are those that ascend, where each is there as often
-same_sorted : (xs ys : List ℕ) → never_fall xs ≡ true → are_ascending ys ≡ true → ((n : ℕ) → count_by (is_same n) xs ≡ count_by (is_same n) ys) → xs ≡ ys
+pub same_sorted : (xs ys : List ℕ) → never_fall xs ≡ true → are_ascending ys ≡ true → ((n : ℕ) → count_by (is_same n) xs ≡ count_by (is_same n) ys) → xs ≡ ys
 same_sorted [] [] order ascend same = refl
 same_sorted [] (y ∷ ys) order ascend same =
     let some = itself_in y ys in
@@ -97,7 +91,7 @@ same_sorted (x ∷ xs) (y ∷ ys) order ascend same =
 
 -- ---- the numbers of some tickets
 
-due_all : (p : ℕ → Bool) (test : Ticket → Bool) (ts : List Ticket) → list_all p (map number_of ts) ≡ true → list_all p (due_numbers test ts) ≡ true
+pub due_all : (p : ℕ → Bool) (test : Ticket → Bool) (ts : List Ticket) → list_all p (map number_of ts) ≡ true → list_all p (due_numbers test ts) ≡ true
 due_all p test [] all = refl
 due_all p test (x ∷ ts) all =
     let parts = and_parts (p x.number) (list_all p (map number_of ts)) all in ap (list_all p) (due_cons test x ts) ∙ by (is_due test x) parts.0 (due_all p test ts parts.1)
@@ -106,7 +100,7 @@ due_all p test (x ∷ ts) all =
     by true one more = and_from (p x.number) (list_all p (due_numbers test ts)) one more
     by false one more = more
 
-due_ascending : (test : Ticket → Bool) (ts : List Ticket) → are_ascending (map number_of ts) ≡ true → are_ascending (due_numbers test ts) ≡ true
+pub due_ascending : (test : Ticket → Bool) (ts : List Ticket) → are_ascending (map number_of ts) ≡ true → are_ascending (due_numbers test ts) ≡ true
 due_ascending test [] ascend = refl
 due_ascending test (x ∷ ts) ascend =
     let parts = and_parts (list_all (nat_lt x.number) (map number_of ts)) (are_ascending (map number_of ts)) ascend in
@@ -284,78 +278,3 @@ pub marked_none : (n : ℕ) (at : ℕ) (given : Answer) (ts : List Ticket) (k : 
     → ts ≡ map (answered_if (has_number n) at given) ts
 marked_none n at given ts k front past =
     sym (idle n at given (is_earlier n) (earlier_idle n) ts (ap (list_all (is_earlier n)) (sym (take_all k ts past)) ∙ front))
-
--- ---- the numbers of a row
-
-ones : (ns : List ℕ) → sum_by (λ (n : ℕ). 1) ns ≡ length ns
-ones [] = refl
-ones (n ∷ ns) = let a = sum_by-cons (λ (m : ℕ). 1) n ns in let more = ones ns in omega (arith, a, more)
-
--- how many are to be taken
-pub row_size : {Z : Type 0} (path : List (List ℕ)) (es : List (Entry (Vec ℕ Z))) (ts : List Ticket) → ascends es ≡ true → IsIndexed ts es
-    → length (all_numbers (filter (is_under path) es)) ≡ count_by (is_due (asks_below path)) ts
-row_size path es ts order are =
-    sym (ones (all_numbers (filter (is_under path) es)))
-    ∙ index_whole (λ (n : ℕ). 1) path es ts order are
-    ∙ ones (due_numbers (asks_below path) ts)
-    ∙ length-map (filter (is_due (asks_below path)) ts) number_of
-    ∙ length-filter (is_due (asks_below path)) ts
-
--- where no entry is at or below a path, no ticket is due there
-pub row_none : {Z : Type 0} (path : List (List ℕ)) (es : List (Entry (Vec ℕ Z))) (ts : List Ticket) → ascends es ≡ true → IsIndexed ts es
-    → length (filter (is_under path) es) ≡ 0 → None ≡ lowest (asks_below path) ts
-row_none {Z} path es ts order are none =
-    sym
-    (ap (option_map number_of) (find_first (is_due (asks_below path)) ts)
-    ∙ ap (λ xs. option_map number_of (first_of xs)) (nothing_in (filter (is_due (asks_below path)) ts) (length-filter (is_due (asks_below path)) ts
-    ∙ sym (row_size path es ts order are)
-    ∙ ap (λ (xs : List (Entry (Vec ℕ Z))). length (all_numbers xs)) (nothing_in (filter (is_under path) es) none))))
-  where
-    nothing_in : {X : Type 0} (xs : List X) → length xs ≡ 0 → xs ≡ []
-    nothing_in [] e = refl
-    nothing_in (x ∷ xs) e = absurd (omega (arith, e))
-
--- those that were taken, in order
-pub row_tail : {Z : Type 0} (path : List (List ℕ)) (es : List (Entry (Vec ℕ Z))) (ts : List Ticket) (old mid new : List ℕ) (k : ℕ) → ascends es ≡ true → IsIndexed ts es
-    → are_ascending (map number_of ts) ≡ true → k ≡ length old → mid ≡ old ++ all_numbers (filter (is_under path) es)
-    → IsPermutation (drop k mid) (drop k new) → IsSorted nat_cmp (drop k new) → drop k new ≡ due_numbers (asks_below path) ts
-row_tail path es ts old mid new k order are ascend place is same sorted =
-    same_sorted (drop k new) (due_numbers (asks_below path) ts) (never_falls (drop k new) (IsNonDecreasingBy-from_sort (λ (n : ℕ). n) (drop k new) sorted))
-    (due_ascending (asks_below path) ts ascend)
-    (λ n. sum_by-IsPermutation (λ (m : ℕ). cond {A = ℕ} (is_same n m) 1 0) (drop k mid) (drop k new) same
-    ∙ ap (λ (ms : List ℕ). count_by (is_same n) ms) tail
-    ∙ index_whole (λ (m : ℕ). cond {A = ℕ} (is_same n m) 1 0) path es ts order are)
-  where
-    tail : drop k mid ≡ all_numbers (filter (is_under path) es)
-    tail =
-        ap (drop k) is
-        ∙ ap (λ i. drop i (old ++ all_numbers (filter (is_under path) es))) place
-        ∙ drop-append_seam old (all_numbers (filter (is_under path) es))
-
-pub row_numbers : (old mid new all due : List ℕ) (k : ℕ) → k ≡ length old → mid ≡ old ++ all → take k new ≡ take k mid → drop k new ≡ due → new ≡ old ++ due
-row_numbers old mid new all due k place is front tail =
-    sym (take-append-drop k new)
-    ∙ ap (λ ns. ns ++ drop k new) (front ∙ ap (take k) is ∙ take-append-le k old all (omega (arith, place)) ∙ take_all k old (omega (arith, place)))
-    ∙ ap (λ ns. old ++ ns) tail
-
--- the tickets and the numbers of a row, once they are answered
-pub row_is : {Z : Type 0} (path : List (List ℕ)) (at : ℕ) (given : Answer) (es : List (Entry (Vec ℕ Z))) (ts news : List Ticket) (old mid new ns : List ℕ) (k : ℕ)
-    → ascends es ≡ true → IsIndexed ts es → are_ascending (map number_of ts) ≡ true → k ≡ length old → mid ≡ old ++ all_numbers (filter (is_under path) es)
-    → take k new ≡ take k mid → IsPermutation (drop k mid) (drop k new) → IsSorted nat_cmp (drop k new) → ns ≡ drop k new
-    → news ≡ map (answered_if (is_among ns) at given) ts
-    → (news ≡ map (answered_if (asks_below path) at given) ts) × (new ≡ old ++ due_numbers (asks_below path) ts)
-row_is path at given es ts news old mid new ns k order are ascend place list front same sorted rest is =
-    let tail = row_tail path es ts old mid new k order are ascend place list same sorted in (
-      is ∙ ap (λ ms. map (answered_if (is_among ms) at given) ts) (rest ∙ tail) ∙ marked_all (asks_below path) at given ts ascend,
-      row_numbers old mid new (all_numbers (filter (is_under path) es)) (due_numbers (asks_below path) ts) k place list front tail,
-    )
-
--- the book then
-pub row_answer : (test : Ticket → Bool) (at : ℕ) (given : Answer) (ts news : List Ticket) (old new : List ℕ) → news ≡ map (answered_if test at given) ts
-    → new ≡ old ++ due_numbers test ts
-    → ◌≡◌ {A = Tickets} (record { all = news; answered = new }) (answer_all test at given (record { all = ts; answered = old }))
-row_answer test at given ts news old new is list =
-    ap (λ (xs : List Ticket). the xs new) is ∙ ap (λ (ns : List ℕ). the (map (answered_if test at given) ts) ns) list
-  where
-    the : List Ticket → List ℕ → Tickets
-    the xs ns = record { all = xs; answered = ns }

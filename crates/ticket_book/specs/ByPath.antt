@@ -1,19 +1,23 @@
--- The numbers of the open tickets by the path that they ask for: no contract outside speaks of it.
-use Rattle.std.specs.Prelude.{◌≡◌, ℕ, Bool, not, ◌++◌, if◌then◌else◌, List, [], ◌∷◌, map, Option, Some, None}
+-- The numbers of the open tickets by the path that they ask for and by command: no contract outside speaks of it.
+use Rattle.std.specs.Prelude.{◌≡◌, ℕ, nat_le, Bool, true, false, not, if◌then◌else◌, List, [], ◌∷◌, map, count_by, Option, Some, None}
+use Rattle.std.specs.BTreeMap.{BTreeMap, get}
+use Rattle.std.specs.BTreeSet.{insert_key}
 use Rattle.std.specs.List.{filter, flat_map, list_any}
-use Rattle.std.specs.Option.{option_map}
-use Rattle.std.specs.Vec.{vec_items}
-use Rattle.std.specs.declared.vec.Vec.{Vec}
+use Rattle.std.specs.Ordering.{nat_cmp}
 use Rattle.mat_path.specs.Names.{same_names}
 use Rattle.mat_model.specs.declared.book.Ticket.{Ticket}
 use Rattle.mat_model.specs.Books.{number_of}
-use Rattle.path_trie.specs.Entries.{is_under, value_at}
+use Rattle.path_trie.specs.Entries.{is_next_under, value_at}
 use Rattle.path_trie.specs.declared.entry.Entry.{Entry}
-use Rattle.ticket_book.specs.Asked.{is_due, is_same}
+use Rattle.ticket_book.specs.Asked.{asks_for, is_due, is_same}
 
 -- whether a ticket asks for exactly a path
 abbrev pub asks_at : List (List ℕ) → Ticket → Bool
 asks_at path ticket = same_names path ticket.asked
+
+-- whether a ticket asks for a path that passes a test
+abbrev pub asks_so : (List (List ℕ) → Bool) → Ticket → Bool
+asks_so test ticket = test ticket.asked
 
 -- the numbers of the open tickets that pass a test, in order
 abbrev pub due_numbers : (Ticket → Bool) → List Ticket → List ℕ
@@ -29,41 +33,62 @@ abbrev pub list_or_empty : Option (List ℕ) → List ℕ
 list_or_empty None = []
 list_or_empty (Some ns) = ns
 
--- the numbers that stand at a path, if an entry is there
-abbrev pub items_at : {Z : Type 0} → List (List ℕ) → List (Entry (Vec ℕ Z)) → Option (List ℕ)
-items_at path entries = option_map vec_items (value_at path entries)
-
 -- at each path stand the numbers of the open tickets that ask for it, and nothing where none does
-abbrev pub IsIndexed : {Z : Type 0} → List Ticket → List (Entry (Vec ℕ Z)) → Type 0
-IsIndexed tickets entries = (path : List (List ℕ)) → items_at path entries ≡ some_list (due_numbers (asks_at path) tickets)
+abbrev pub IsIndexed : List Ticket → List (Entry (List ℕ)) → Type 0
+IsIndexed tickets entries = (path : List (List ℕ)) → value_at path entries ≡ some_list (due_numbers (asks_at path) tickets)
+
+-- at each command stand the numbers of its open tickets, and nothing where it has none
+abbrev pub IsFiled : List Ticket → BTreeMap ℕ (List ℕ) → Type 0
+IsFiled tickets commands = (command : ℕ) → get nat_cmp commands command ≡ some_list (due_numbers (asks_for command) tickets)
 
 -- the numbers of an entry, and of some
-abbrev pub numbers_of : {Z : Type 0} → Entry (Vec ℕ Z) → List ℕ
-numbers_of entry = entry.value.items
+abbrev pub numbers_of : Entry (List ℕ) → List ℕ
+numbers_of entry = entry.value
 
-abbrev pub all_numbers : {Z : Type 0} → List (Entry (Vec ℕ Z)) → List ℕ
+abbrev pub all_numbers : List (Entry (List ℕ)) → List ℕ
 all_numbers entries = flat_map numbers_of entries
 
--- whether an entry is neither at nor below a path
-abbrev pub is_aside : {V : Type 0} → List (List ℕ) → Entry V → Bool
-is_aside path entry = not (is_under path entry)
+-- whether an entry is below a path, and not at it
+abbrev pub is_inside : {V : Type 0} → List (List ℕ) → Entry V → Bool
+is_inside path entry = is_next_under path path entry
 
--- what stands at a path once a number came behind others at one
-abbrev pub items_with : List (List ℕ) → ℕ → List (List ℕ) → Option (List ℕ) → Option (List ℕ)
-items_with path number at items = if same_names at path then Some (list_or_empty items ++ number ∷ []) else items
+-- numbers with one more
+abbrev pub numbers_with : ℕ → Option (List ℕ) → Option (List ℕ)
+numbers_with number numbers = Some (insert_key nat_cmp (list_or_empty numbers) number)
 
 -- whether a number is another one
 abbrev pub is_other : ℕ → ℕ → Bool
 is_other number other = not (is_same number other)
 
--- what stands at a path once a number went at one
-abbrev pub items_less : List (List ℕ) → ℕ → List (List ℕ) → Option (List ℕ) → Option (List ℕ)
-items_less path number at items = if same_names at path then some_list (filter (is_other number) (list_or_empty items)) else items
+-- numbers without one
+abbrev pub numbers_less : ℕ → Option (List ℕ) → Option (List ℕ)
+numbers_less number numbers = some_list (filter (is_other number) (list_or_empty numbers))
+
+-- whether a list is there, and empty
+abbrev pub is_bare : Option (List ℕ) → Bool
+is_bare None = false
+is_bare (Some []) = true
+is_bare (Some (n ∷ ns)) = false
+
+-- the lower of a number and another, if there is one
+abbrev pub lower : ℕ → Option ℕ → Option ℕ
+lower n None = Some n
+lower n (Some m) = if nat_le n m then Some n else Some m
+
+-- the lower of two, if one is there
+abbrev pub lower_of : Option ℕ → Option ℕ → Option ℕ
+lower_of None other = other
+lower_of (Some n) other = lower n other
+
+-- the lowest of some numbers
+abbrev pub least : List ℕ → Option ℕ
+least [] = None
+least (n ∷ ns) = lower n (least ns)
+
+-- each number is in two lists as often
+abbrev pub AreAsOften : List ℕ → List ℕ → Type 0
+AreAsOften numbers others = (number : ℕ) → count_by (is_same number) numbers ≡ count_by (is_same number) others
 
 -- whether the number of a ticket is one of some
 abbrev pub is_among : List ℕ → Ticket → Bool
 is_among numbers ticket = list_any (is_same ticket.number) numbers
-
--- whether a ticket isn't open, or doesn't pass a test
-abbrev pub is_left : (Ticket → Bool) → Ticket → Bool
-is_left test ticket = not (is_due test ticket)

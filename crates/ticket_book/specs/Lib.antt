@@ -2,4 +2,4 @@ pub mod Asked
 pub mod ByPath
 pub mod Done
 pub mod Found
-pub mod Whose
+pub mod Index

@@ -4,13 +4,11 @@ ghost use Rattle.std.specs.Option.{option_and_then, option_copied};
 ghost use Rattle.mat_model.specs.Requests.{is_open_of};
 ghost use Rattle.mat_model.specs.Tickets.{is_open};
 ghost use Rattle.ticket_book.specs.Asked.{AreTickets, answer_all, asks_below, asks_for, asks_over, has_number, is_due, is_earlier, is_from, lowest, ticket_at, with_ticket};
-ghost use Rattle.ticket_book.specs.Whose.{takes};
 
-use crate::whose::Whose;
-use crate::{by_path, lists};
+use crate::index::Index;
+use crate::lists;
 use mat_model::{Answer, Ticket};
 use mat_path::{Memory, Path};
-use path_trie::Trie;
 use std::alloc::Global;
 use std::marker::Model;
 
@@ -23,23 +21,22 @@ pub struct TicketBook {
     answered: Vec<u64>,
     // No ticket before this place is open.
     done: usize,
-    // The numbers of the open tickets by the path that they ask for, in order.
-    by_path: Trie<Vec<u64>>,
-    alloc: Global,
+    // The numbers of the open tickets by the path that they ask for, and by command.
+    index: Index,
 }
 
 impl Model for TicketBook {
     ghost use Rattle.std.specs.Prelude.{◌≤◌, length};
     ghost use Rattle.std.specs.Vec.{vec_capacity};
     ghost use Rattle.ticket_book.specs.Asked.{AreTickets, Tickets};
-    ghost use Rattle.ticket_book.specs.ByPath.{IsIndexed};
+    ghost use Rattle.ticket_book.specs.Index.{IsIndex};
     ghost use Rattle.ticket_book.specs.Done.{IsDone};
 
     ghost Value = { Tickets };
 
     ghost view = { λ book. record { all = book.tickets.items; answered = book.answered.items } };
 
-    ghost invariant = { λ book. AreTickets (record { all = book.tickets.items; answered = book.answered.items }) × (length book.tickets.items ≤ vec_capacity book.answered) × IsDone book.done book.tickets.items × IsIndexed book.tickets.items book.by_path };
+    ghost invariant = { λ book. AreTickets (record { all = book.tickets.items; answered = book.answered.items }) × (length book.tickets.items ≤ vec_capacity book.answered) × IsDone book.done book.tickets.items × IsIndex book.tickets.items book.index.paths book.index.commands };
 }
 
 impl TicketBook {
@@ -52,8 +49,7 @@ impl TicketBook {
             tickets: Vec::new(alloc),
             answered: Vec::new(alloc),
             done: 0,
-            by_path: Trie::new(alloc),
-            alloc,
+            index: Index::new(alloc),
         }
     }
 
@@ -66,7 +62,7 @@ impl TicketBook {
         self.tickets.reserve(1)?;
         let more = self.tickets.len() - self.answered.len() + 1;
         self.answered.reserve(more)?;
-        by_path::add(&mut self.by_path, self.alloc, &ticket.asked, ticket.number)?;
+        self.index.add(&ticket)?;
         self.tickets.push_reserved(ticket);
         Ok(())
     }
@@ -82,7 +78,7 @@ impl TicketBook {
     pub fn open_of(&self, command: u32) -> u64
         ensures { result ≡ count_by (is_open_of command) self.now.all }
     {
-        lists::count_of(self.tickets.as_slice(), self.done, command) as u64
+        self.index.count_of(command) as u64
     }
 
     /// Answers the open tickets that ask for a path at or below this one, at an entry of the history.
@@ -90,11 +86,16 @@ impl TicketBook {
         ensures { self.new ≡ answer_all (asks_below path.now) at answer self.old }
     {
         let known = self.answered.len();
-        self.by_path.is_in_order();
-        by_path::take_below(&mut self.by_path, path, &mut self.answered);
-        lists::sort_from(&mut self.answered, known);
-        let numbers = lists::rest(self.answered.as_slice(), known);
-        lists::answer_numbers(&mut self.tickets, numbers, at, answer);
+        self.index.is_in_order();
+        self.index.list_row(path, &mut self.answered);
+        lists::answer_from(
+            &mut self.tickets,
+            &mut self.index,
+            &mut self.answered,
+            known,
+            at,
+            answer,
+        );
         self.done = lists::first_open(self.tickets.as_slice(), self.done);
     }
 
@@ -102,14 +103,35 @@ impl TicketBook {
     pub fn answer_overlap(&mut self, path: &Path, at: u64, answer: Answer)
         ensures { self.new ≡ answer_all (asks_over path.now) at answer self.old }
     {
-        self.answer_all(&Whose::Over(path), at, answer);
+        let known = self.answered.len();
+        self.index.is_in_order();
+        self.index.list_overlap(path, &mut self.answered);
+        lists::answer_from(
+            &mut self.tickets,
+            &mut self.index,
+            &mut self.answered,
+            known,
+            at,
+            answer,
+        );
+        self.done = lists::first_open(self.tickets.as_slice(), self.done);
     }
 
     /// Answers the open tickets of a command.
     pub fn answer_command(&mut self, command: u32, at: u64, answer: Answer)
         ensures { self.new ≡ answer_all (asks_for command) at answer self.old }
     {
-        self.answer_all(&Whose::Of(command), at, answer);
+        let known = self.answered.len();
+        self.index.list_of(command, &mut self.answered);
+        lists::answer_from(
+            &mut self.tickets,
+            &mut self.index,
+            &mut self.answered,
+            known,
+            at,
+            answer,
+        );
+        self.done = lists::first_open(self.tickets.as_slice(), self.done);
     }
 
     /// Answers the ticket of a number, which is open.
@@ -117,14 +139,16 @@ impl TicketBook {
         requires open { list_any (is_due (has_number number)) self.old.all ≡ true }
         ensures { self.new ≡ answer_all (has_number number) at answer self.old }
     {
-        by_path::drop_one(
-            &mut self.by_path,
-            self.alloc,
-            self.tickets.as_slice(),
-            number,
-        );
+        let known = self.answered.len();
         self.answered.push_reserved(number);
-        lists::answer_one(&mut self.tickets, number, at, answer);
+        lists::answer_from(
+            &mut self.tickets,
+            &mut self.index,
+            &mut self.answered,
+            known,
+            at,
+            answer,
+        );
         self.done = lists::first_open(self.tickets.as_slice(), self.done);
     }
 
@@ -132,11 +156,8 @@ impl TicketBook {
     pub fn lowest_below(&self, path: &Path) -> Option<u64>
         ensures { result ≡ lowest (asks_below path.now) self.now.all }
     {
-        self.by_path.is_in_order();
-        if self.by_path.count_under(path) == 0 {
-            return None;
-        }
-        lists::lowest(self.tickets.as_slice(), self.done, &Whose::Below(path))
+        self.index.is_in_order();
+        self.index.lowest_under(path)
     }
 
     /// The lowest number of an open ticket that isn't below this one.
@@ -182,25 +203,5 @@ impl TicketBook {
         ensures { AreTickets self.now }
     {
         let _tickets = &self.tickets;
-    }
-
-    // Answers the open tickets that an answer is for.
-    fn answer_all(&mut self, whose: &Whose, at: u64, answer: Answer)
-        ensures { self.new ≡ answer_all (takes whose.now) at answer self.old }
-    {
-        by_path::drop_due(
-            &mut self.by_path,
-            self.alloc,
-            lists::rest(self.tickets.as_slice(), self.done),
-            whose,
-        );
-        lists::list_due(
-            &mut self.answered,
-            self.tickets.as_slice(),
-            self.done,
-            whose,
-        );
-        lists::answer_listed(&mut self.tickets, self.done, whose, at, answer);
-        self.done = lists::first_open(self.tickets.as_slice(), self.done);
     }
 }

@@ -1,98 +1,77 @@
-ghost use Rattle.std.specs.Prelude.{◌≡◌, ◌+◌, ◌≤◌, ◌++◌, [], ◌∷◌, ℕ, List, false, true, is_ok, is_some, length, map, if◌then◌else◌};
-ghost use Rattle.std.specs.List.{filter, list_any};
+ghost use Rattle.std.specs.Prelude.{◌≡◌, ◌+◌, ◌≤◌, ◌++◌, ℕ, List, None, false, true, is_ok, is_some, length, if◌then◌else◌};
+ghost use Rattle.std.specs.List.{filter};
 ghost use Rattle.std.specs.Vec.{vec_capacity};
 ghost use Rattle.mat_path.specs.Names.{same_names};
-ghost use Rattle.mat_model.specs.Books.{are_ascending, number_of};
-ghost use Rattle.path_trie.specs.Entries.{is_under, put, value_at};
-ghost use Rattle.ticket_book.specs.Asked.{has_number, is_due};
-ghost use Rattle.ticket_book.specs.ByPath.{IsIndexed, all_numbers, is_aside, is_left, is_other, items_at, items_less, items_with};
-ghost use Rattle.ticket_book.specs.Whose.{takes};
+ghost use Rattle.path_trie.specs.Entries.{is_above, put, value_at};
+ghost use Rattle.ticket_book.specs.ByPath.{all_numbers, is_inside, least, list_or_empty, lower_of, numbers_less, numbers_with};
 
-use crate::lists::place_from;
-use crate::whose::Whose;
-use mat_model::Ticket;
+use crate::numbers::Numbers;
 use mat_path::{Memory, Path};
 use path_trie::Trie;
 use std::alloc::Global;
 
 // Takes the numbers at a path out, if an entry is there, which stays.
-fn lift(entries: &mut Trie<Vec<u64>>, alloc: Global, path: &Path) -> Option<Vec<u64>>
+fn lift(entries: &mut Trie<Numbers>, alloc: Global, path: &Path) -> Option<Numbers>
     ensures value { result ≡ value_at path.now entries.old }
     ensures there { is_some (value_at path.now entries.new) ≡ is_some (value_at path.now entries.old) }
     ensures others { (at : List (List ℕ)) → same_names at path.now ≡ false → value_at at entries.new ≡ value_at at entries.old }
 {
-    match entries.replace(path, Vec::new(alloc)) {
+    match entries.replace(path, Numbers::new(alloc)) {
         Ok(numbers) => Some(numbers),
         Err(_) => None,
     }
 }
 
 // Other numbers in the place of those that stand at a path.
-fn put_back(entries: &mut Trie<Vec<u64>>, path: &Path, numbers: Vec<u64>)
+fn put_back(entries: &mut Trie<Numbers>, path: &Path, numbers: Numbers)
     requires { is_some (value_at path.now entries.old) ≡ true }
     ensures { entries.new ≡ put path.now numbers entries.old }
 {
     let _old = entries.replace(path, numbers);
 }
 
-// Puts a number behind others. For want of memory nothing changes.
-fn push(numbers: &mut Vec<u64>, number: u64) -> Result<(), Memory>
-    ensures { numbers.new.items ≡ (if is_ok result then numbers.old.items ++ number ∷ [] else numbers.old.items) }
-{
-    numbers.push(number)?;
-    Ok(())
-}
-
 // Puts the first number at a path. For want of memory nothing changes.
 fn add_first(
-    entries: &mut Trie<Vec<u64>>,
+    entries: &mut Trie<Numbers>,
     alloc: Global,
     path: &Path,
     number: u64,
 ) -> Result<(), Memory>
-    requires { is_some (value_at path.now entries.old) ≡ false }
-    ensures { (at : List (List ℕ)) → items_at at entries.new ≡ (if is_ok result then items_with path.now number at (items_at at entries.old) else items_at at entries.old) }
+    ensures { (at : List (List ℕ)) → value_at at entries.new ≡ (if is_ok result then (if same_names at path.now then numbers_with number None else value_at at entries.old) else value_at at entries.old) }
 {
-    let mut numbers = Vec::new(alloc);
-    push(&mut numbers, number)?;
+    let mut numbers = Numbers::new(alloc);
+    numbers.add(number)?;
     match entries.insert(path, numbers) {
         Ok(_) => Ok(()),
         Err(_) => Err(Memory),
     }
 }
 
-// Puts a number behind those at a path. For want of memory no numbers change.
+// Puts a number at a path. For want of memory no numbers change.
 pub(crate) fn add(
-    entries: &mut Trie<Vec<u64>>,
+    entries: &mut Trie<Numbers>,
     alloc: Global,
     path: &Path,
     number: u64,
 ) -> Result<(), Memory>
-    ensures { (at : List (List ℕ)) → items_at at entries.new ≡ (if is_ok result then items_with path.now number at (items_at at entries.old) else items_at at entries.old) }
+    ensures { (at : List (List ℕ)) → value_at at entries.new ≡ (if is_ok result then (if same_names at path.now then numbers_with number (value_at at entries.old) else value_at at entries.old) else value_at at entries.old) }
 {
     let Some(mut numbers) = lift(entries, alloc, path) else {
         return add_first(entries, alloc, path, number);
     };
-    let added = push(&mut numbers, number);
+    let added = numbers.add(number);
     put_back(entries, path, numbers);
     added
 }
 
-// The numbers but one.
-fn drop_from(numbers: &mut Vec<u64>, number: u64)
-    ensures { numbers.new.items ≡ filter (is_other number) numbers.old.items }
-{
-    numbers.retain(|other| *other != number);
-}
-
 // Takes a number away at a path. Takes no memory, as the calls below.
-pub(crate) fn drop_number(entries: &mut Trie<Vec<u64>>, alloc: Global, path: &Path, number: u64)
-    ensures { (at : List (List ℕ)) → items_at at entries.new ≡ items_less path.now number at (items_at at entries.old) }
+pub(crate) fn drop_number(entries: &mut Trie<Numbers>, alloc: Global, path: &Path, number: u64)
+    ensures { (at : List (List ℕ)) → value_at at entries.new ≡ (if same_names at path.now then numbers_less number (value_at at entries.old) else value_at at entries.old) }
 {
     let Some(mut numbers) = lift(entries, alloc, path) else {
         return;
     };
-    drop_from(&mut numbers, number);
+    numbers.drop(number);
     if numbers.is_empty() {
         entries.remove(path);
         return;
@@ -100,54 +79,76 @@ pub(crate) fn drop_number(entries: &mut Trie<Vec<u64>>, alloc: Global, path: &Pa
     put_back(entries, path, numbers);
 }
 
-// Takes the number of an open ticket away. The ticket is found by halves.
-pub(crate) fn drop_one(entries: &mut Trie<Vec<u64>>, alloc: Global, tickets: &[Ticket], number: u64)
-    requires indexed { IsIndexed tickets.now entries.old }
-    requires ascending { are_ascending (map number_of tickets.now) ≡ true }
-    requires there { list_any (is_due (has_number number)) tickets.now ≡ true }
-    ensures { IsIndexed (filter (is_left (has_number number)) tickets.now) entries.new }
-{
-    let place = place_from(tickets, number);
-    drop_number(entries, alloc, &tickets[place].asked, number);
-}
-
-// Takes the numbers of the open tickets away that an answer is for.
-pub(crate) fn drop_due(
-    entries: &mut Trie<Vec<u64>>,
-    alloc: Global,
-    tickets: &[Ticket],
-    whose: &Whose,
-)
-    requires indexed { IsIndexed tickets.now entries.old }
-    requires ascending { are_ascending (map number_of tickets.now) ≡ true }
-    ensures { IsIndexed (filter (is_left (takes whose.now)) tickets.now) entries.new }
-{
-    for ticket in tickets {
-        if whose.is_due(ticket) {
-            drop_number(entries, alloc, &ticket.asked, ticket.number);
-        }
-    }
-}
-
-// Puts some numbers behind others, for which there is room.
-fn push_all(numbers: &mut Vec<u64>, more: &[u64])
-    requires { length numbers.old.items + length more.now ≤ vec_capacity numbers.old }
-    ensures list { numbers.new.items ≡ numbers.old.items ++ more.now }
+// Puts the numbers at a path behind others, for which there is room.
+pub(crate) fn list_at(entries: &Trie<Numbers>, path: &Path, numbers: &mut Vec<u64>)
+    requires { length numbers.old.items + length (list_or_empty (value_at path.now entries.now)) ≤ vec_capacity numbers.old }
+    ensures list { numbers.new.items ≡ numbers.old.items ++ list_or_empty (value_at path.now entries.now) }
     ensures capacity { vec_capacity numbers.new ≡ vec_capacity numbers.old }
 {
-    for number in more {
-        numbers.push_reserved(*number);
+    if let Some(found) = entries.get(path) {
+        found.push_to(numbers);
     }
 }
 
-// Takes all numbers away that are at or below a path, and puts them behind others, for which there is room.
-pub(crate) fn take_below(entries: &mut Trie<Vec<u64>>, path: &Path, numbers: &mut Vec<u64>)
-    requires { length numbers.old.items + length (all_numbers (filter (is_under path.now) entries.old)) ≤ vec_capacity numbers.old }
-    ensures left { entries.new ≡ filter (is_aside path.now) entries.old }
-    ensures list { numbers.new.items ≡ numbers.old.items ++ all_numbers (filter (is_under path.now) entries.old) }
+// The same of the numbers at the prefixes of a path, and at it.
+pub(crate) fn list_above(entries: &Trie<Numbers>, path: &Path, numbers: &mut Vec<u64>)
+    requires { length numbers.old.items + length (all_numbers (filter (is_above path.now) entries.now)) ≤ vec_capacity numbers.old }
+    ensures list { numbers.new.items ≡ numbers.old.items ++ all_numbers (filter (is_above path.now) entries.now) }
     ensures capacity { vec_capacity numbers.new ≡ vec_capacity numbers.old }
 {
-    'entries: while let Some(entry) = entries.take_under(path) {
-        push_all(numbers, entry.value.as_slice());
+    entries.is_in_order();
+    let mut shortest = 0;
+    'entries: while let Some((at, found)) = entries.above_from(path, shortest) {
+        found.push_to(numbers);
+        shortest = at.names().len() + 1;
     }
+}
+
+// The same of the numbers below a path.
+pub(crate) fn list_inside(entries: &Trie<Numbers>, path: &Path, numbers: &mut Vec<u64>)
+    requires { length numbers.old.items + length (all_numbers (filter (is_inside path.now) entries.now)) ≤ vec_capacity numbers.old }
+    ensures list { numbers.new.items ≡ numbers.old.items ++ all_numbers (filter (is_inside path.now) entries.now) }
+    ensures capacity { vec_capacity numbers.new ≡ vec_capacity numbers.old }
+{
+    entries.is_in_order();
+    let mut last = path;
+    'entries: while let Some((at, found)) = entries.next_under(path, last) {
+        found.push_to(numbers);
+        last = at;
+    }
+}
+
+// The lower of two numbers, if one is there.
+fn lower_of(number: Option<u64>, other: Option<u64>) -> Option<u64>
+    ensures { result ≡ lower_of number other }
+{
+    match (number, other) {
+        (Some(n), Some(m)) => Some(n.min(m)),
+        (Some(n), None) => Some(n),
+        (None, other) => other,
+    }
+}
+
+// The lowest number at a path.
+fn lowest_at(entries: &Trie<Numbers>, path: &Path) -> Option<u64>
+    ensures { result ≡ least (list_or_empty (value_at path.now entries.now)) }
+{
+    match entries.get(path) {
+        Some(numbers) => numbers.first(),
+        None => None,
+    }
+}
+
+// The lowest number at and below a path: the first of each entry there is looked at.
+pub(crate) fn lowest_under(entries: &Trie<Numbers>, path: &Path) -> Option<u64>
+    ensures { result ≡ lower_of (least (list_or_empty (value_at path.now entries.now))) (least (all_numbers (filter (is_inside path.now) entries.now))) }
+{
+    entries.is_in_order();
+    let mut lowest = lowest_at(entries, path);
+    let mut last = path;
+    'entries: while let Some((at, found)) = entries.next_under(path, last) {
+        lowest = lower_of(lowest, found.first());
+        last = at;
+    }
+    lowest
 }

@@ -2,9 +2,11 @@
 #![tactic(auto)]
 
 mod book;
+mod by_command;
 mod by_path;
+mod index;
 mod lists;
-mod whose;
+mod numbers;
 
 pub use book::TicketBook;
 

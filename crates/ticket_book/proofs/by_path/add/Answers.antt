@@ -7,4 +7,4 @@ returns-in_default c = more_none _ c.args.number _ _ _ _ (search rules) c.lift.e
 
 pub returns : goal.returns
 returns c =
-    more_put _ c.args.number c.in-Some.numbers c.push-added.new.numbers _ _ _ _ (search rules) c.lift.ensures.others c.push-added.ensures c.put_back.ensures
+    more_put _ c.args.number c.in-Some.numbers c.add-added.new.self _ _ _ _ (search rules) c.lift.ensures.others c.add-added.ensures c.put_back.ensures

@@ -7,8 +7,8 @@ returns-in_default c = less_none _ c.args.number _ _ (search rules) c.lift.ensur
 
 pub returns-then-is_empty : goal.returns-then-is_empty
 returns-then-is_empty c =
-    less_here _ c.args.number c.in-Some.numbers c.drop_from.new.numbers _ _ _ (search rules) c.lift.ensures.others c.drop_from.ensures (search rules) c.remove.ensures.list
+    less_here _ c.args.number c.in-Some.numbers c.drop.new.self _ _ _ (search rules) c.lift.ensures.others c.drop.ensures (search rules) c.remove.ensures.list
 
 pub returns : goal.returns
 returns c =
-    less_put _ c.args.number c.in-Some.numbers c.drop_from.new.numbers _ _ _ (search rules) c.lift.ensures.others c.drop_from.ensures (search rules) c.put_back.ensures
+    less_put _ c.args.number c.in-Some.numbers c.drop.new.self _ _ _ (search rules) c.lift.ensures.others c.drop.ensures (search rules) c.put_back.ensures
