@@ -8,4 +8,5 @@ pub mod Gets
 pub mod Grown
 pub mod Nexts
 pub mod Puts
+pub mod Sealed
 pub mod Takings

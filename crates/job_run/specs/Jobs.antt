@@ -1,4 +1,4 @@
--- What a job keeps between its steps, and what it leaves when it has ended.
+-- What a job keeps between its steps.
 use Rattle.std.specs.Prelude.{◌≡◌, ◌≤◌, ◌⊎◌, ℕ, Bool, true, List, Option, Some, None}
 use Rattle.std.specs.Option.{is_some}
 use Rattle.mat_model.specs.declared.entries.Card.{Card}
@@ -9,11 +9,11 @@ use Rattle.region_port.specs.States.{loan_region, state_region}
 use Rattle.region_port.specs.declared.port.Region.{Ghosts}
 use Rattle.region_port.specs.declared.states.ReadLoan.{ReadLoan}
 use Rattle.job_run.specs.Done.{is_make, task_path}
-use Rattle.job_run.specs.States.{failure_of, has_ended, is_disk, region_of, state_cost}
-use Rattle.job_run.specs.Steps.{CallsPart, Spot, StateAsks, Told, Stands, doing_spot, loan_call, part_call, state_spot, store_call}
-use Rattle.job_run.specs.declared.job.Goal.{Goal}
-use Rattle.job_run.specs.declared.job.Goal.TheVariants as goal
-use Rattle.job_run.specs.declared.job.Job.{Job}
+use Rattle.job_run.specs.States.{failure_of, has_ended, is_disk, region_of, state_asks, state_cost}
+use Rattle.job_run.specs.Steps.{Fetching, Spot, Stands, doing_spot, spot_next, state_fetching, state_spot}
+use Rattle.job_run.specs.declared.machine.Goal.{Goal}
+use Rattle.job_run.specs.declared.machine.Goal.TheVariants as goal
+use Rattle.job_run.specs.declared.machine.Machine.{Machine}
 use Rattle.job_run.specs.declared.job.Next.{Next}
 use Rattle.job_run.specs.declared.job.Next.TheVariants as next
 use Rattle.job_run.specs.declared.states.State.{State}
@@ -25,37 +25,32 @@ goal_tree (goal.Tree tree) = Some tree
 goal_tree goal.Nothing = None
 
 -- what is seen of a job: its card, the tree that it is to make, if it is to make one, the part that is lent to it, its own region, how it failed
-abbrev pub job_card : {R : Type 0} {g : Ghosts R} → Job R g → Card
-job_card job = job.card
+abbrev pub machine_card : {R : Type 0} {g : Ghosts R} → Machine R g → Card
+machine_card machine = machine.card
 
-abbrev pub job_goal : {R : Type 0} {g : Ghosts R} → Job R g → Option (List Flat)
-job_goal job = goal_tree job.goal.value
+abbrev pub machine_goal : {R : Type 0} {g : Ghosts R} → Machine R g → Option (List Flat)
+machine_goal machine = goal_tree machine.goal.value
 
-abbrev pub job_loan : {R : Type 0} {g : Ghosts R} → Job R g → Option (ReadLoan R)
-job_loan job = job.loan
+abbrev pub machine_loan : {R : Type 0} {g : Ghosts R} → Machine R g → Option (ReadLoan R)
+machine_loan machine = machine.loan
 
-abbrev pub job_region : {R : Type 0} {g : Ghosts R} → Job R g → Option R
-job_region job = region_of job.state
+abbrev pub machine_region : {R : Type 0} {g : Ghosts R} → Machine R g → Option R
+machine_region machine = region_of machine.state
 
-abbrev pub job_failure : {R : Type 0} {g : Ghosts R} → Job R g → Option Outcome
-job_failure job = failure_of job.state
+abbrev pub machine_failure : {R : Type 0} {g : Ghosts R} → Machine R g → Option Outcome
+machine_failure machine = failure_of machine.state
 
 -- whether it has ended, which device its next call is on, and how many calls it makes at most
-abbrev pub is_over : {R : Type 0} {g : Ghosts R} → Job R g → Bool
-is_over job = has_ended job.state
+abbrev pub machine_over : {R : Type 0} {g : Ghosts R} → Machine R g → Bool
+machine_over machine = has_ended machine.state
 
-abbrev pub job_spot : {R : Type 0} {g : Ghosts R} → Job R g → Spot
-job_spot job = state_spot job.state
+abbrev pub machine_spot : {R : Type 0} {g : Ghosts R} → Machine R g → Spot
+machine_spot machine = state_spot machine.state
 
-abbrev pub calls_left : {R : Type 0} {g : Ghosts R} → Job R g → ℕ
-calls_left job = state_cost job.state
+abbrev pub machine_cost : {R : Type 0} {g : Ghosts R} → Machine R g → ℕ
+machine_cost machine = state_cost machine.state
 
 -- the device that the next step of a job calls, if it has one
-abbrev pub spot_next : Spot → Next
-spot_next part_call = next.Disk
-spot_next store_call = next.Store
-spot_next loan_call = next.Disk
-
 abbrev pub state_next : {R : Type 0} {g : Ghosts R} → State R g → Next
 state_next (state.Wiping region) = next.Disk
 state_next (state.Emptying region) = next.Disk
@@ -64,15 +59,15 @@ state_next (state.Making making) = spot_next (doing_spot making.doing)
 state_next (state.Ended left ended) = next.Nothing
 state_next state.Moving = next.Nothing
 
-abbrev pub job_next : {R : Type 0} {g : Ghosts R} → Job R g → Next
-job_next job = state_next job.state
+abbrev pub machine_next : {R : Type 0} {g : Ghosts R} → Machine R g → Next
+machine_next machine = state_next machine.state
 
--- one call on a job's region, and one on the store
-abbrev pub CallsRegion : {R : Type 0} {g : Ghosts R} → R → Job R g → Type 0
-CallsRegion before job = CallsPart before job.state
+-- how many files it may still ask the store for, and the one that it reads there
+abbrev pub machine_asks : {R : Type 0} {g : Ghosts R} → Machine R g → ℕ
+machine_asks machine = state_asks machine.state
 
-abbrev pub JobAsks : {R : Type 0} {g : Ghosts R} → Job R g → Told → Told → Option Outcome → Type 0
-JobAsks job old new failure = StateAsks job.state old new failure
+abbrev pub machine_fetching : {R : Type 0} {g : Ghosts R} → Machine R g → Option Fetching
+machine_fetching machine = state_fetching machine.state
 
 -- a count of faults of a part that is lent is at least this
 abbrev pub LoanCounts : {R : Type 0} → Ghosts R → Option (ReadLoan R) → ℕ → Type 0
@@ -97,7 +92,7 @@ Counts {R} {g} (state.Ended left ended) loan = IsCounted g ended (g.fault_count 
 Counts state.Moving loan = Unit {0}
 
 -- what a job keeps
-pub record IsJob {R : Type 0} {g : Ghosts R} (job : Job R g) : Type 0 where
+pub record IsJob {R : Type 0} {g : Ghosts R} (job : Machine R g) : Type 0 where
   pub stands : Stands (task_path job.card.task) (goal_tree job.goal.value) (is_some job.loan) job.state
   pub kind : is_some (goal_tree job.goal.value) ≡ is_make job.card.task
   pub counts : Counts job.state job.loan

@@ -6,7 +6,9 @@ pub mod Jobs
 pub mod Orders
 pub mod Pieces
 pub mod Readings
+pub mod Seen
 pub mod Stages
 pub mod States
 pub mod Steps
 pub mod StoreCalls
+pub mod Views

@@ -1,10 +1,13 @@
 -- What each stage of a make keeps.
-use Rattle.std.specs.Prelude.{◌≡◌, ◌≤◌, ◌+◌, ◌-◌, ◌*◌, ℕ, Bool, true, false, List, [], ◌∷◌, ◌++◌, length, take, Option, Some, None}
+use Rattle.std.specs.Prelude.{◌≡◌, ◌≤◌, ◌==◌, ◌+◌, ◌-◌, ◌*◌, ℕ, Bool, true, false, if◌then◌else◌, List, [], ◌∷◌, ◌++◌, length, take, Option, Some, None}
+use Rattle.std.specs.List.{sum_by}
 use Rattle.mat_digest.specs.Digests.{digest_of}
 use Rattle.mat_digest.specs.declared.digest.Digest.{Digest}
 use Rattle.mat_tree.specs.Parts.{Part}
 use Rattle.mat_tree.specs.declared.flat.Flat.{Flat}
 use Rattle.write_plan.specs.Plans.{is_empty}
+use Rattle.write_plan.specs.declared.act.Act.{Act}
+use Rattle.write_plan.specs.declared.act.Act.TheVariants as act
 use Rattle.write_plan.specs.declared.act.Supply.{Supply}
 use Rattle.write_plan.specs.declared.act.Supply.TheVariants as supply
 use Rattle.write_plan.specs.declared.method.Method.{Method}
@@ -111,3 +114,55 @@ doing_cost doing.Sync = 1
 
 abbrev pub making_cost : Order → Doing → ℕ
 making_cost order doing = doing_cost doing + acts_cost order.left.items
+
+-- ---- how many files a make may still ask the store for
+
+-- whether a row's own bytes are in the store, as a number
+abbrev pub own_asks : Supply → ℕ
+own_asks supply.Empty = 0
+own_asks supply.Held = 0
+own_asks supply.Store = 1
+own_asks (supply.Loan rel) = 0
+
+-- a file that is lent may be begun again with the row's own bytes
+abbrev pub supply_asks : Method → Supply → ℕ
+supply_asks way supply.Empty = 0
+supply_asks way supply.Held = 0
+supply_asks way supply.Store = 1
+supply_asks way (supply.Loan rel) = own_asks (own_supply way)
+
+abbrev pub act_asks : Method → Act → ℕ
+act_asks way act.Wipe = 0
+act_asks way (act.Dir rel) = 0
+act_asks way (act.Link rel target) = 0
+act_asks way (act.File rel digest exec from) = supply_asks way from
+act_asks way act.Sync = 0
+
+abbrev pub acts_asks : Method → List Act → ℕ
+acts_asks way acts = sum_by (act_asks way) acts
+
+-- a file is asked for at its first piece alone
+abbrev pub reading_asks : Reading → ℕ
+reading_asks reading = if reading.at == 0 then 1 else 0
+
+abbrev pub source_asks : Method → Source → Reading → ℕ
+source_asks way source.Store reading = reading_asks reading
+source_asks way (source.Loan rel) reading = own_asks (own_supply way)
+
+abbrev pub more_asks : Method → Source → Option Reading → ℕ
+more_asks way from None = 0
+more_asks way from (Some reading) = source_asks way from reading
+
+abbrev pub filling_asks : Method → Filling → ℕ
+filling_asks way (filling.Held at) = 0
+filling_asks way (filling.Due from reading) = source_asks way from reading
+filling_asks way (filling.Got from at piece more) = more_asks way from more
+
+abbrev pub doing_asks : Method → Doing → ℕ
+doing_asks way (doing.Dir rel) = 0
+doing_asks way (doing.Link rel target) = 0
+doing_asks way (doing.File filing how) = filling_asks way how
+doing_asks way doing.Sync = 0
+
+abbrev pub making_asks : Order → Doing → ℕ
+making_asks order doing = doing_asks order.method doing + acts_asks order.method order.left.items

@@ -18,7 +18,7 @@ use Rattle.region_port.specs.declared.port.Region.{Ghosts}
 use Rattle.region_port.specs.declared.states.Part.{Part}
 use Rattle.region_port.specs.declared.states.Part.TheVariants as part
 use Rattle.job_run.specs.Orders.{acts_cost}
-use Rattle.job_run.specs.Stages.{IsMaking, making_cost}
+use Rattle.job_run.specs.Stages.{IsMaking, acts_asks, making_asks, making_cost}
 use Rattle.job_run.specs.declared.states.Doing.{Doing}
 use Rattle.job_run.specs.declared.states.Order.{Order}
 use Rattle.job_run.specs.declared.states.State.{State}
@@ -139,6 +139,15 @@ state_cost (state.Clearing region order) = acts_cost order.left.items + 1
 state_cost (state.Making making) = making_cost making.order making.doing
 state_cost (state.Ended left ended) = 0
 state_cost state.Moving = 0
+
+-- how many files a job may still ask the store for from a stage on
+abbrev pub state_asks : {R : Type 0} {g : Ghosts R} → State R g → ℕ
+state_asks (state.Wiping region) = 0
+state_asks (state.Emptying region) = 0
+state_asks (state.Clearing region order) = acts_asks order.method order.left.items
+state_asks (state.Making making) = making_asks making.order making.doing
+state_asks (state.Ended left ended) = 0
+state_asks state.Moving = 0
 
 -- ---- what a stage keeps
 

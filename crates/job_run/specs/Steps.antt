@@ -17,6 +17,9 @@ use Rattle.job_run.specs.StoreCalls.{IsStoreCall}
 use Rattle.job_run.specs.declared.states.Filing.{Filing}
 use Rattle.job_run.specs.Orders.{IsLeft, IsMakeable}
 use Rattle.job_run.specs.States.{HasEnded, IsMakeOf, failure_of, region_of}
+use Rattle.job_run.specs.declared.job.Next.{Next}
+use Rattle.job_run.specs.declared.job.Next.TheVariants as next
+use Rattle.job_run.specs.declared.reading.Reading.{Reading}
 use Rattle.job_run.specs.declared.states.Doing.{Doing}
 use Rattle.job_run.specs.declared.states.Doing.TheVariants as doing
 use Rattle.job_run.specs.declared.states.Filling.{Filling}
@@ -31,6 +34,12 @@ pub data Spot : Type 0 where
   part_call : Spot
   store_call : Spot
   loan_call : Spot
+
+-- the device that a call is on
+abbrev pub spot_next : Spot → Next
+spot_next part_call = next.Disk
+spot_next store_call = next.Store
+spot_next loan_call = next.Disk
 
 abbrev pub source_spot : Source → Spot
 source_spot source.Store = store_call
@@ -55,6 +64,39 @@ state_spot (state.Making making) = doing_spot making.doing
 state_spot (state.Ended left ended) = part_call
 state_spot state.Moving = part_call
 
+-- a file that is read in the store: its digest, and how far it is read
+pub record Fetching : Type 0 where
+  pub wanted : Digest
+  pub reading : Reading
+
+abbrev pub fetching_of : Digest → Source → Reading → Option Fetching
+fetching_of wanted source.Store reading = Some (record { wanted = wanted; reading = reading })
+fetching_of wanted (source.Loan rel) reading = None
+
+abbrev pub more_fetching : Digest → Source → Option Reading → Option Fetching
+more_fetching wanted from None = None
+more_fetching wanted from (Some reading) = fetching_of wanted from reading
+
+abbrev pub filling_fetching : Digest → Filling → Option Fetching
+filling_fetching wanted (filling.Held at) = None
+filling_fetching wanted (filling.Due from reading) = fetching_of wanted from reading
+filling_fetching wanted (filling.Got from at piece more) = more_fetching wanted from more
+
+abbrev pub doing_fetching : Doing → Option Fetching
+doing_fetching (doing.Dir rel) = None
+doing_fetching (doing.Link rel target) = None
+doing_fetching (doing.File filing how) = filling_fetching filing.digest how
+doing_fetching doing.Sync = None
+
+-- the file that a stage reads in the store, if it is at one
+abbrev pub state_fetching : {R : Type 0} {g : Ghosts R} → State R g → Option Fetching
+state_fetching (state.Wiping region) = None
+state_fetching (state.Emptying region) = None
+state_fetching (state.Clearing region order) = None
+state_fetching (state.Making making) = doing_fetching making.doing
+state_fetching (state.Ended left ended) = None
+state_fetching state.Moving = None
+
 -- a job's stage stands: at this place, for this goal, with a part lent or not
 abbrev pub Stands : {R : Type 0} {g : Ghosts R} → List (List ℕ) → Option (List Flat) → Bool → State R g → Type 0
 Stands {R} {g} place goal lent (state.Wiping region) = (g.place region ≡ place) × (goal ≡ None)
@@ -72,6 +114,17 @@ Stands place goal lent state.Moving = ⊥
 abbrev pub CallsPart : {R : Type 0} {g : Ghosts R} → R → State R g → Type 0
 CallsPart {R} {g} region s =
     ForSome (region_of s) (λ (now : R). IsDiskCall (g.fault_count region) (g.fault_count now) (g.watch region) (g.watch now) (failure_of s))
+
+-- the same of a job's region
+abbrev pub CallsRegion : {R : Type 0} → Ghosts R → Option R → Option R → Option Outcome → Type 0
+CallsRegion g None now failure = ⊥
+CallsRegion g (Some before) None failure = ⊥
+CallsRegion g (Some before) (Some now) failure = IsDiskCall (g.fault_count before) (g.fault_count now) (g.watch before) (g.watch now) failure
+
+-- a region is there, and at this path
+abbrev pub IsAt : {R : Type 0} → Ghosts R → List (List ℕ) → Option R → Type 0
+IsAt g place None = ⊥
+IsAt g place (Some region) = g.place region ≡ place
 
 -- one call on the part that is lent: it stays as it is, but for its counts
 pub record IsLoanCall {R : Type 0} (g : Ghosts R) (old new : ReadLoan R) (failure : Option Outcome) : Type 0 where
@@ -96,7 +149,13 @@ pub record Told : Type 0 where
 abbrev pub told_now : Option Blobs → ℕ → ℕ → Option Watch → Told
 told_now holds faults fetches watch = record { holds = holds; faults = faults; fetches = fetches; watch = watch }
 
--- one call on the store for the next piece of a file
+-- one call on the store for the next piece of the file that is read there
+abbrev pub Asks : Option Fetching → Told → Told → Option Outcome → Type 0
+Asks None old new failure = ⊥
+Asks (Some file) old new failure =
+    IsStoreCall file.wanted file.reading old.holds old.faults new.faults old.fetches new.fetches old.watch new.watch failure
+
+-- the same by what a stage is at
 abbrev pub FillingAsks : Filing → Filling → Told → Told → Option Outcome → Type 0
 FillingAsks filing (filling.Held at) old new failure = ⊥
 FillingAsks filing (filling.Due from reading) old new failure =

@@ -9,6 +9,7 @@ mod getting;
 mod going;
 mod job;
 mod lending;
+mod machine;
 mod pieces;
 mod putting;
 mod reading;

@@ -8,7 +8,7 @@ ghost use Rattle.region_port.specs.Memory.{region_place};
 ghost use Rattle.region_port.specs.States.{state_region};
 ghost use Rattle.write_plan.specs.Plans.{lends_at, may_lend};
 ghost use Rattle.job_run.specs.Done.{task_path};
-ghost use Rattle.job_run.specs.Jobs.{IsJob, job_card};
+ghost use Rattle.job_run.specs.Views.{job_card};
 ghost use Rattle.job_run.specs.Orders.{held_bytes, is_right, is_right_from, own_supply};
 
 use crate::acts::{held_bytes, own_supply};
@@ -146,7 +146,6 @@ fn make(
     method: Method,
     loan: Option<ReadLoan<MemRegion>>,
 ) -> Result<Job<MemRegion>, Fail>
-    ensures job { IfOk result (λ job. IsJob job) }
     ensures place { IfOk result (λ job. task_path (job_card job).task ≡ region_place region) }
 {
     let lent = loan.is_some();
@@ -167,7 +166,6 @@ fn make(
 
 /// A job that wipes the part of a region.
 fn wipe(region: MemRegion) -> Result<Job<MemRegion>, Fail>
-    ensures job { IfOk result (λ job. IsJob job) }
     ensures place { IfOk result (λ job. task_path (job_card job).task ≡ region_place region) }
 {
     let path = region.path().copy()?;
@@ -227,8 +225,6 @@ fn copied(alloc: Global, origin: Origin) -> Result<Method, Fail> {
 
 /// Makes the next step of a job, if it has one, and tells the device that the job named: `D` the disk, `S` the store.
 fn step(job: &mut Job<MemRegion>, store: &mut MemStore, text: &mut Vec<u8>) -> Result<(), Memory>
-    requires { IsJob job.old }
-    ensures job { IsJob job.new }
     ensures card { job_card job.new ≡ job_card job.old }
 {
     match job.next() {
@@ -250,8 +246,6 @@ fn run(
     armed: Armed,
     text: &mut Vec<u8>,
 ) -> Result<(), Memory>
-    requires { IsJob job.old }
-    ensures job { IsJob job.new }
     ensures card { job_card job.new ≡ job_card job.old }
 {
     for at in 0..steps {
@@ -393,7 +387,6 @@ fn told(
     disk: &mut MemDisk,
     armed: Armed,
 ) -> Result<Vec<u8>, Fail>
-    requires job { IsJob job }
     requires out { list_any (same_names (task_path (job_card job).task)) (disk_loans disk.old) ≡ true }
 {
     let mut text = Vec::new(alloc);
@@ -412,7 +405,6 @@ fn told_at_once(
     store: &mut MemStore,
     disk: &mut MemDisk,
 ) -> Result<Vec<u8>, Fail>
-    requires job { IsJob job }
     requires out { list_any (same_names (task_path (job_card job).task)) (disk_loans disk.old) ≡ true }
 {
     let mut text = Vec::new(alloc);
@@ -426,9 +418,7 @@ fn told_given_up(
     mut job: Job<MemRegion>,
     store: &mut MemStore,
     steps: usize,
-) -> Result<Vec<u8>, Fail>
-    requires { IsJob job }
-{
+) -> Result<Vec<u8>, Fail> {
     let mut text = Vec::new(alloc);
     run(&mut job, store, steps, Armed::Nothing, &mut text)?;
     let (part, loan) = job.abort();

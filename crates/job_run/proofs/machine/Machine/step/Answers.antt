@@ -2,10 +2,11 @@ use Rattle.std.proofs.Common.{ap, ◌∙◌}
 use Rattle.std.specs.Option.{is_some}
 use Rattle.job_run.specs.Done.{task_path}
 use Rattle.job_run.specs.Jobs.{goal_tree}
-use Rattle.job_run.specs.States.{failure_of}
+use Rattle.job_run.specs.States.{failure_of, region_of}
 use Rattle.job_run.specs.Steps.{state_spot, told_now}
-use Rattle.job_run.proofs.Counting.{calls_moved, counted_after, counts_moved, stands_lent, stands_moved, stays_after}
-use Rattle.job_run.proofs.job.Job.step.Goals as goal
+use Rattle.job_run.proofs.Counting.{counted_after, counts_moved, stands_lent, stands_moved, stays_after}
+use Rattle.job_run.proofs.Sealed.{asked_so, called_so}
+use Rattle.job_run.proofs.machine.Machine.step.Goals as goal
 
 pub advance-next-requires-clause-stands : goal.advance-next-requires-clause-stands
 advance-next-requires-clause-stands g c =
@@ -34,10 +35,29 @@ returns-then-is_over-clause-job g c =
 
 pub returns-then-is_over-clause-on_part : goal.returns-then-is_over-clause-on_part
 returns-then-is_over-clause-on_part g c = λ spot.
+    let j = c.args.self.now in
     let all = c.advance-next.ensures.on_part (ap state_spot c.replace-state.ensures.value ∙ spot) in (
-      calls_moved c.args.self.now.state c.replace-state.result c.advance-next.result c.settle_in.new.place c.replace-state.ensures.value c.settle_in.ensures all.0,
+      called_so (task_path j.card.task) (goal_tree j.goal.value) (is_some j.loan) j.state c.replace-state.result c.advance-next.result c.settle_in.new.place
+          c.replace-state.ensures.value c.settle_in.ensures c.requires.job.stands (c.advance-next.ensures.stands (task_path j.card.task) (goal_tree j.goal.value)) all.0,
       all.1,
       all.2,
+    )
+
+pub returns-then-is_over-clause-loan : goal.returns-then-is_over-clause-loan
+returns-then-is_over-clause-loan g c =
+    stays_after g.R.Region (state_spot c.replace-state.result) c.args.self.now.loan c.advance-next.new.loan (failure_of c.advance-next.result)
+    (λ spot. (c.advance-next.ensures.on_part spot).1) (λ spot. (c.advance-next.ensures.on_loan spot).1) (λ spot. (c.advance-next.ensures.on_store spot).1)
+
+pub returns-then-is_over-clause-on_store : goal.returns-then-is_over-clause-on_store
+returns-then-is_over-clause-on_store g c = λ spot.
+    let f = g.F.Fetcher in
+    let all = c.advance-next.ensures.on_store (ap state_spot c.replace-state.ensures.value ∙ spot) in (
+      ap region_of c.settle_in.ensures ∙ all.0 ∙ ap region_of c.replace-state.ensures.value,
+      all.1,
+      asked_so c.args.self.now.state c.replace-state.result c.advance-next.result c.settle_in.new.place
+          (told_now (f.holds c.args.fetcher.now) (f.fault_count c.args.fetcher.now) (f.fetches c.args.fetcher.now) (f.watch c.args.fetcher.now))
+          (told_now (f.holds c.advance-next.new.fetcher) (f.fault_count c.advance-next.new.fetcher) (f.fetches c.advance-next.new.fetcher) (f.watch c.advance-next.new.fetcher))
+          c.replace-state.ensures.value c.settle_in.ensures spot all.2,
     )
 
 pub returns-clause-job : goal.returns-clause-job
@@ -59,18 +79,27 @@ returns-clause-job g c =
 
 pub returns-clause-on_part : goal.returns-clause-on_part
 returns-clause-on_part g c = λ spot.
+    let j = c.args.self.now in
     let all = c.advance-next.ensures.on_part (ap state_spot c.replace-state.ensures.value ∙ spot) in (
-      calls_moved c.args.self.now.state c.replace-state.result c.advance-next.result c.settle_in.new.place c.replace-state.ensures.value c.settle_in.ensures all.0,
+      called_so (task_path j.card.task) (goal_tree j.goal.value) (is_some j.loan) j.state c.replace-state.result c.advance-next.result c.settle_in.new.place
+          c.replace-state.ensures.value c.settle_in.ensures c.requires.job.stands (c.advance-next.ensures.stands (task_path j.card.task) (goal_tree j.goal.value)) all.0,
       all.1,
       all.2,
     )
-
-pub returns-then-is_over-clause-loan : goal.returns-then-is_over-clause-loan
-returns-then-is_over-clause-loan g c =
-    stays_after g.R.Region (state_spot c.replace-state.result) c.args.self.now.loan c.advance-next.new.loan (failure_of c.advance-next.result)
-    (λ spot. (c.advance-next.ensures.on_part spot).1) (λ spot. (c.advance-next.ensures.on_loan spot).1) (λ spot. (c.advance-next.ensures.on_store spot).1)
 
 pub returns-clause-loan : goal.returns-clause-loan
 returns-clause-loan g c =
     stays_after g.R.Region (state_spot c.replace-state.result) c.args.self.now.loan c.advance-next.new.loan (failure_of c.advance-next.result)
     (λ spot. (c.advance-next.ensures.on_part spot).1) (λ spot. (c.advance-next.ensures.on_loan spot).1) (λ spot. (c.advance-next.ensures.on_store spot).1)
+
+pub returns-clause-on_store : goal.returns-clause-on_store
+returns-clause-on_store g c = λ spot.
+    let f = g.F.Fetcher in
+    let all = c.advance-next.ensures.on_store (ap state_spot c.replace-state.ensures.value ∙ spot) in (
+      ap region_of c.settle_in.ensures ∙ all.0 ∙ ap region_of c.replace-state.ensures.value,
+      all.1,
+      asked_so c.args.self.now.state c.replace-state.result c.advance-next.result c.settle_in.new.place
+          (told_now (f.holds c.args.fetcher.now) (f.fault_count c.args.fetcher.now) (f.fetches c.args.fetcher.now) (f.watch c.args.fetcher.now))
+          (told_now (f.holds c.advance-next.new.fetcher) (f.fault_count c.advance-next.new.fetcher) (f.fetches c.advance-next.new.fetcher) (f.watch c.advance-next.new.fetcher))
+          c.replace-state.ensures.value c.settle_in.ensures spot all.2,
+    )
