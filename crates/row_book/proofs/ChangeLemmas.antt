@@ -23,7 +23,7 @@ use Rattle.row_book.proofs.FindLemmas.{get_is, none_found, none_is, some_is}
 
 -- ---- lists of which all pass a test
 
-filter_none : {X : Type 0} (p q : X → Bool) → ((x : X) → q x ≡ true → p x ≡ false) → (xs : List X) → list_all q xs ≡ true → filter p xs ≡ []
+pub filter_none : {X : Type 0} (p q : X → Bool) → ((x : X) → q x ≡ true → p x ≡ false) → (xs : List X) → list_all q xs ≡ true → filter p xs ≡ []
 filter_none p q fails [] all = refl
 filter_none p q fails (x ∷ xs) all =
     let parts = and_parts (q x) (list_all q xs) all in
@@ -41,7 +41,7 @@ not_less Equal less = absurd cc
 not_less Greater less = absurd cc
 
 -- what comes behind a path doesn't come before it
-not_before : (path q : List (List ℕ)) → is_lt (path_cmp path q) ≡ true → is_lt (path_cmp q path) ≡ false
+pub not_before : (path q : List (List ℕ)) → is_lt (path_cmp path q) ≡ true → is_lt (path_cmp q path) ≡ false
 not_before path q less = ap is_lt (path_cmp_total.antisymm q path) ∙ not_less (path_cmp path q) less
 
 -- ---- a place with another value
@@ -147,7 +147,7 @@ set_none path value change (s ∷ ss) none = by (stock_at path s) refl none (λ 
         ∙ ap₂ (λ b (ys : List Place). place_of (cond b (change s) s) ∷ ys) (sym is) (more off)
 
 -- what is apart from a stock isn't at its path
-rest_away : (path : List (List ℕ)) (s : Stock) (ss : List Stock) → stock_at path s ≡ true → list_all (is_apart s.row) (rows_of ss) ≡ true → find (stock_at path) ss ≡ None
+pub rest_away : (path : List (List ℕ)) (s : Stock) (ss : List Stock) → stock_at path s ≡ true → list_all (is_apart s.row) (rows_of ss) ≡ true → find (stock_at path) ss ≡ None
 rest_away path s ss at later = none_found (stock_at path) s meets ss later
   where
     meets : (t : Stock) → stock_at path t ≡ true → overlap s.row.path t.row.path ≡ true
@@ -318,6 +318,10 @@ held_fits path change old stocks found part other held placed apart is one two a
 -- the list that a trie is seen as
 pub seen_as : (places : List Place) (stocks : List Stock) → places ≡ map place_of stocks → stocks_of places ≡ stocks
 seen_as places stocks is = ap stocks_of is ∙ stocks_again stocks
+
+-- each stock of such a list stands at the path of its row
+pub placed_again : (places : List Place) (stocks : List Stock) → places ≡ map place_of stocks → places ≡ map place_of (stocks_of places)
+placed_again places stocks is = is ∙ ap (map place_of) (sym (seen_as places stocks is))
 
 -- a list that the trie has is that of the book
 pub whole_of : (places : List Place) (held : ℕ) (stocks : List Stock) → places ≡ map place_of stocks → are_apart (rows_of stocks) ≡ true → held ≡ held_bytes stocks → IsWhole places held

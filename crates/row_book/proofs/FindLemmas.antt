@@ -3,10 +3,10 @@ use Rattle.mat_path.proofs.Bools.{false_by, or_second}
 use Rattle.mat_path.proofs.Overlaps.{overlap_of_prefixes}
 use Rattle.mat_path.proofs.PathLemmas.{overlap_comm, prefix-trans}
 use Rattle.mat_path.proofs.SameNames.{same_names-sym}
-use Rattle.std.proofs.Common.{◌≡◌, ℕ, Bool, true, false, not, cond, ◌&&◌, ◌||◌, nat_le, List, [], ◌∷◌, map, length, drop, find, Option, Some, None, refl, ◌∙◌, sym, ap, arith}
+use Rattle.std.proofs.Common.{◌≡◌, ℕ, Bool, true, false, not, cond, ◌&&◌, ◌||◌, nat_le, List, [], ◌∷◌, map, length, drop, find, Option, Some, None, Bor, refl, ◌∙◌, sym, ap, arith}
 use Rattle.std.proofs.lemmas.Bool.{and_parts, le-leb, not-true}
 use Rattle.std.specs.List.{list_all, list_any, slice_get}
-use Rattle.std.specs.Option.{is_some, option_flatten, option_map, option_map_or}
+use Rattle.std.specs.Option.{is_some, option_copied, option_flatten, option_map, option_map_or}
 use Rattle.mat_path.specs.Names.{is_prefix, overlap, rest_below}
 use Rattle.mat_tree.specs.declared.flat.Flat.{Flat}
 use Rattle.mat_tree.specs.declared.sum.Kind.{Kind}
@@ -64,6 +64,10 @@ told_at p q alike places stocks placed = told_both (find p places) ∙ found_at 
 -- the stock at a path
 pub get_is : (path : List (List ℕ)) (places : List Place) (stocks : List Stock) → places ≡ map place_of stocks → option_flatten (value_at path places) ≡ find (stock_at path) stocks
 get_is path places stocks placed = found_at (is_at path) (stock_at path) (λ (s : Stock). same_names-sym path s.row.path) places stocks placed
+
+pub copied_some : (o : Option (Bor Stock)) → is_some (option_copied o) ≡ is_some o
+copied_some None = refl
+copied_some (Some stock) = refl
 
 -- what is told of a stock's row that was found
 pub row_found : (p : Row → Bool) (stocks : List Stock) (o : Option Stock) → o ≡ find (λ (s : Stock). p s.row) stocks → option_map row_of o ≡ find p (rows_of stocks)

@@ -1,5 +1,5 @@
 -- The stocks of a book: rows, each with what is kept beside it.
-use Rattle.std.specs.Prelude.{ℕ, ◌&&◌, Bool, true, false, if◌then◌else◌, List, [], ◌∷◌, map, Option, Some, None}
+use Rattle.std.specs.Prelude.{ℕ, ◌&&◌, Bool, true, false, not, if◌then◌else◌, List, [], ◌∷◌, map, Option, Some, None}
 use Rattle.std.specs.List.{sum_by}
 use Rattle.mat_tree.specs.Trees.{bytes_of}
 use Rattle.mat_model.specs.declared.book.Row.{Row}
@@ -25,7 +25,7 @@ path_of stock = stock.row.path
 abbrev pub row_passes : (Row → Bool) → Stock → Bool
 row_passes test stock = test stock.row
 
--- whether a stock's row is at exactly a path, overlaps it, doesn't, and covers it
+-- whether a stock's row is at exactly a path, overlaps it, doesn't, is at another one, and covers it
 abbrev pub stock_at : List (List ℕ) → Stock → Bool
 stock_at path stock = is_at_path path stock.row
 
@@ -34,6 +34,12 @@ overlaps_stock path stock = overlaps_row path stock.row
 
 abbrev pub is_clear_stock : List (List ℕ) → Stock → Bool
 is_clear_stock path stock = is_clear_of path stock.row
+
+abbrev pub is_elsewhere : List (List ℕ) → Row → Bool
+is_elsewhere path row = not (is_at_path path row)
+
+abbrev pub is_stock_elsewhere : List (List ℕ) → Stock → Bool
+is_stock_elsewhere path stock = is_elsewhere path stock.row
 
 abbrev pub covers_stock : List (List ℕ) → Stock → Bool
 covers_stock path stock = covers path stock.row

@@ -1,12 +1,12 @@
 -- How stocks stand in a trie, and what a book keeps beside it.
-use Rattle.std.specs.Prelude.{◌≡◌, ℕ, Bool, true, if◌then◌else◌, List, map, Option, Some, None}
-use Rattle.std.specs.List.{filter_map, find, slice_get}
+use Rattle.std.specs.Prelude.{◌≡◌, ℕ, Bool, true, if◌then◌else◌, List, [], ◌∷◌, ◌++◌, map, Option, Some, None}
+use Rattle.std.specs.List.{filter, filter_map, find, slice_get}
 use Rattle.mat_path.specs.Names.{is_prefix}
 use Rattle.mat_model.specs.Rows.{are_apart}
 use Rattle.path_trie.specs.Entries.{is_at, is_behind, is_next_under, is_under, value_of}
 use Rattle.path_trie.specs.declared.entry.Entry.{Entry}
 use Rattle.row_book.specs.declared.stock.Stock.{Stock}
-use Rattle.row_book.specs.Stocks.{held_bytes, rows_of}
+use Rattle.row_book.specs.Stocks.{held_bytes, is_stock_elsewhere, rows_of, stock_at}
 
 -- what stands at a path of the trie: a stock, but while it is changed
 abbrev pub Place : Type 0
@@ -36,6 +36,20 @@ is_under_stock path stock = is_prefix path stock.row.path
 abbrev pub stock_found : {X : Type 0} → Option (X × Option Stock) → Option Stock
 stock_found None = None
 stock_found (Some found) = found.1
+
+-- the stock that is there, if one is
+abbrev pub listed : Option Stock → List Stock
+listed None = []
+listed (Some stock) = stock ∷ []
+
+-- the stocks without those at some paths, and those that are taken out path by path
+abbrev pub without_stocks : List (List (List ℕ)) → List Stock → List Stock
+without_stocks [] stocks = stocks
+without_stocks (path ∷ paths) stocks = without_stocks paths (filter (is_stock_elsewhere path) stocks)
+
+abbrev pub taken_stocks : List (List (List ℕ)) → List Stock → List Stock
+taken_stocks [] stocks = []
+taken_stocks (path ∷ paths) stocks = listed (find (stock_at path) stocks) ++ taken_stocks paths (filter (is_stock_elsewhere path) stocks)
 
 -- whether a place is at or below a path, and comes behind another one, if one is given
 abbrev pub is_later_under : List (List ℕ) → Option (List (List ℕ)) → Place → Bool

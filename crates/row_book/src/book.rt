@@ -1,15 +1,16 @@
-ghost use Rattle.std.specs.Prelude.{◌≡◌, ◌+◌, ◌≤◌, ◌<◌, ◌^◌, [], true, find, length, map, Option, Some, None};
-ghost use Rattle.std.specs.List.{list_any};
+ghost use Rattle.std.specs.Prelude.{◌≡◌, ◌+◌, ◌≤◌, ◌<◌, ◌^◌, [], true, is_ok, find, length, map, if◌then◌else◌, IfErr, IfOk, Option, Some, None};
+ghost use Rattle.std.specs.List.{filter, list_any};
 ghost use Rattle.std.specs.Option.{option_copied, option_map};
-ghost use Rattle.mat_model.specs.Rows.{are_apart, cover, is_at_path, overlaps_row, standing_row, used};
-ghost use Rattle.row_book.specs.Stocks.{covers_stock, held_bytes, is_next_overlap, is_past, marked_stock, row_of, rows_of, standing_stock, stock_at, supplied_stock, used_stock};
+ghost use Rattle.mat_model.specs.Rows.{are_apart, cover, is_at_path, is_clear_of, overlaps_row, put_row, standing_row, used};
+ghost use Rattle.row_book.specs.Stocks.{covers_stock, held_bytes, is_clear_stock, is_elsewhere, is_next_overlap, is_past, is_stock_elsewhere, overlaps_stock, put_stock, marked_stock, row_of, rows_of, standing_stock, stock_at, supplied_stock, used_stock};
 
 use crate::changes::{mark_at, stand_at, supply_at, use_at};
 use crate::finds::{
     if_covering, if_past, stock_above, stock_at, stock_behind, stock_leading, stock_under,
 };
-use crate::stock::Stock;
-use mat_path::Path;
+use crate::stock::{Stock, held_of};
+use crate::takes::{held_all, list_overlapping, place, take_one, take_overlapping};
+use mat_path::{Memory, Path};
 use path_trie::{Steps, Trie};
 use std::alloc::Global;
 use std::marker::{Brand, Model};
@@ -166,5 +167,61 @@ impl RowBook {
         ensures rows { rows_of self.new ≡ rows_of self.old }
     {
         self.held = supply_at(&mut self.trie, self.held, path, method);
+    }
+
+    /// Puts a row into its place, and takes each away that overlaps its path: these are given, in order of path. For want of memory the
+    /// row comes back, and nothing changes. The bytes that are held then are fewer than 2^64.
+    pub fn declare(&mut self, stock: Stock) -> Result<Vec<Stock>, Stock>
+        requires few { held_bytes (put_stock stock (filter (is_clear_stock stock.row.path) self.old)) < 2 ^ 64 }
+        ensures stocks { self.new ≡ (if is_ok result then put_stock stock (filter (is_clear_stock stock.row.path) self.old) else self.old) }
+        ensures rows { rows_of self.new ≡ (if is_ok result then put_row stock.row (filter (is_clear_of stock.row.path) (rows_of self.old)) else rows_of self.old) }
+        ensures removed { IfOk result (λ removed. removed.items ≡ filter (overlaps_stock stock.row.path) self.old) }
+        ensures back { IfErr result (λ back. back ≡ stock) }
+    {
+        let Ok(path) = stock.row.path.copy() else {
+            return Err(stock);
+        };
+        let Ok((paths, mut removed)) = list_overlapping(&self.trie, &path) else {
+            return Err(stock);
+        };
+        let bytes = held_of(&stock);
+        match place(&mut self.trie, &path, paths.as_slice(), stock, &mut removed) {
+            Ok(()) => {
+                self.held = self.held - held_all(removed.as_slice()) + bytes;
+                Ok(removed)
+            }
+            Err(stock) => Err(stock),
+        }
+    }
+
+    /// Takes each row away that overlaps a path: these are given, in order of path. For want of memory nothing changes.
+    pub fn remove_overlapping(&mut self, path: &Path) -> Result<Vec<Stock>, Memory>
+        ensures stocks { self.new ≡ (if is_ok result then filter (is_clear_stock path.now) self.old else self.old) }
+        ensures rows { rows_of self.new ≡ (if is_ok result then filter (is_clear_of path.now) (rows_of self.old) else rows_of self.old) }
+        ensures removed { IfOk result (λ removed. removed.items ≡ filter (overlaps_stock path.now) self.old) }
+    {
+        match list_overlapping(&self.trie, path) {
+            Ok((paths, mut removed)) => {
+                take_overlapping(&mut self.trie, path, paths.as_slice(), &mut removed);
+                self.held -= held_all(removed.as_slice());
+                Ok(removed)
+            }
+            Err(Memory) => Err(Memory),
+        }
+    }
+
+    /// Takes the row at exactly a path away, and gives it; where there is none, nothing changes. Takes no memory.
+    pub fn remove(&mut self, path: &Path) -> Option<Stock>
+        ensures stock { result ≡ find (stock_at path.now) self.old }
+        ensures stocks { self.new ≡ filter (is_stock_elsewhere path.now) self.old }
+        ensures rows { rows_of self.new ≡ filter (is_elsewhere path.now) (rows_of self.old) }
+    {
+        match take_one(&mut self.trie, path) {
+            Some(stock) => {
+                self.held -= held_of(&stock);
+                Some(stock)
+            }
+            None => None,
+        }
     }
 }

@@ -12,7 +12,11 @@ use path_trie::Trie;
 use write_plan::Method;
 
 // Puts another value in place of the one at a path, if one stands there, and gives that.
-fn swap(trie: &mut Trie<Option<Stock>>, path: &Path, value: Option<Stock>) -> Option<Option<Stock>>
+pub(crate) fn swap(
+    trie: &mut Trie<Option<Stock>>,
+    path: &Path,
+    value: Option<Stock>,
+) -> Option<Option<Stock>>
     ensures value { result ≡ value_at path.now trie.old }
     ensures trie { trie.new ≡ map (set_place path.now value) trie.old }
 {

@@ -1,10 +1,10 @@
 // Stocks that are found in the trie.
-ghost use Rattle.std.specs.Prelude.{◌≡◌, ◌+◌, ◌≤◌, find, length, Some};
+ghost use Rattle.std.specs.Prelude.{◌≡◌, ◌+◌, ◌≤◌, find, is_some, length, map, Some};
 ghost use Rattle.std.specs.Option.{option_copied, option_flatten, option_map};
 ghost use Rattle.path_trie.specs.Entries.{both, cover_of, is_high, value_at};
 ghost use Rattle.path_trie.specs.Roots.{kept_if};
-ghost use Rattle.row_book.specs.Stocks.{covers_stock, is_past};
-ghost use Rattle.row_book.specs.Whole.{first_later, is_later_under, stock_found};
+ghost use Rattle.row_book.specs.Stocks.{covers_stock, is_past, stock_at};
+ghost use Rattle.row_book.specs.Whole.{first_later, is_later_under, place_of, stock_found, stocks_of};
 
 use crate::stock::{Stock, covers};
 use mat_path::Path;
@@ -19,6 +19,14 @@ pub(crate) fn stock_at<'a>(trie: &'a Trie<Option<Stock>>, path: &Path) -> Option
         Some(place) => place.as_ref(),
         None => None,
     }
+}
+
+// Whether a stock is at a path.
+pub(crate) fn has_stock(trie: &Trie<Option<Stock>>, path: &Path) -> bool
+    requires { trie.now ≡ map place_of (stocks_of trie.now) }
+    ensures { result ≡ is_some (find (stock_at path.now) (stocks_of trie.now)) }
+{
+    stock_at(trie, path).is_some()
 }
 
 // The stock whose row is at the shortest prefix of a path. Each node that is visited counts.

@@ -47,8 +47,8 @@ fn is_held_method(method: &Method) -> bool
     }
 }
 
-// How many bytes are held for a stock.
-pub(crate) fn held_of(stock: &Stock) -> u64
+/// How many bytes the daemon holds for a row: those of its files, where its method holds them. Takes no memory.
+pub fn held_of(stock: &Stock) -> u64
     ensures { result ≡ held_of stock.now }
 {
     if is_held_method(&stock.method) {
