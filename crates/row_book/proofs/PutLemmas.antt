@@ -6,7 +6,7 @@ use Rattle.model_laws.proofs.Apart.{before-trans}
 use Rattle.model_laws.proofs.Clear.{at_path_overlaps}
 use Rattle.model_laws.proofs.Elements.{found_all, found_passes}
 use Rattle.path_trie.proofs.Lists.{all_filter, all_so}
-use Rattle.std.proofs.Common.{◌≡◌, ℕ, ◌<◌, ◌≤◌, Bool, true, false, not, cond, ◌&&◌, List, [], ◌∷◌, ◌++◌, length, map, find, Option, Some, None, Ordering, Less, Equal, Greater, refl, ◌∙◌, sym, ap, ap₂, subst, arith}
+use Rattle.std.proofs.Common.{◌≡◌, ℕ, ◌<◌, ◌≤◌, Bool, true, false, not, cond, ◌&&◌, List, [], ◌∷◌, ◌++◌, length, map, reverse, find, Option, Some, None, Ordering, Less, Equal, Greater, refl, ◌∙◌, sym, ap, ap₂, subst, arith}
 use Rattle.std.proofs.lemmas.Bool.{and_from, and_parts, both_ways, not-true}
 use Rattle.std.specs.List.{filter, list_all}
 use Rattle.std.specs.Option.{is_some}
@@ -19,7 +19,7 @@ use Rattle.row_book.specs.Stocks.{changed_at, is_clear_stock, is_stock_elsewhere
 use Rattle.row_book.specs.Whole.{Place, listed, place_of, set_place, stocks_of, taken_stocks, without_stocks}
 use Rattle.row_book.proofs.ChangeLemmas.{filter_none, not_before, rest_away, seen_as, set_none}
 use Rattle.row_book.proofs.FindLemmas.{none_is}
-use Rattle.row_book.proofs.TakeLemmas.{all_in, chosen_left, chosen_taken, comes_later, in_line, line_parts, paths_are}
+use Rattle.row_book.proofs.TakeLemmas.{all_in, back_paths, chosen_left, chosen_taken, comes_later, in_line, line_parts, paths_are, turned_list}
 
 -- ---- the place of a new stock
 
@@ -174,22 +174,22 @@ paths_beside path new stocks at away =
 -- what is left and what is taken
 pub put_left : (path : List (List ℕ)) (new : Stock) (stocks : List Stock) → path ≡ new.row.path → in_line stocks ≡ true → in_line (put_stock new stocks) ≡ true
     → is_some (find (stock_at path) stocks) ≡ false
-    → without_stocks (map path_of (filter (overlaps_stock path) stocks)) (put_stock new stocks) ≡ put_stock new (filter (is_clear_stock path) stocks)
+    → without_stocks (back_paths (overlaps_stock path) stocks) (put_stock new stocks) ≡ put_stock new (filter (is_clear_stock path) stocks)
 put_left path new stocks at line more away =
     let all = away_all path stocks away in
-    ap (λ (ts : List Stock). without_stocks (map path_of ts) (put_stock new stocks)) (paths_beside path new stocks at all)
+    ap (λ (ts : List Stock). without_stocks (reverse (map path_of ts)) (put_stock new stocks)) (paths_beside path new stocks at all)
     ∙ chosen_left (overlaps_beside path) (stays_beside path) (λ s. refl) (put_stock new stocks) more
     ∙ filter_put (stays_beside path) new stocks (ap not (beside_new path new at)) line
     ∙ ap (put_stock new) (filter_alike (stays_beside path) (is_clear_stock path) (is_stock_elsewhere path) (λ s off. ap not (beside_is path s off)) stocks all)
 
 pub put_taken : (path : List (List ℕ)) (new : Stock) (stocks : List Stock) → path ≡ new.row.path → in_line (put_stock new stocks) ≡ true
     → is_some (find (stock_at path) stocks) ≡ false
-    → taken_stocks (map path_of (filter (overlaps_stock path) stocks)) (put_stock new stocks) ≡ filter (overlaps_stock path) stocks
+    → taken_stocks (back_paths (overlaps_stock path) stocks) (put_stock new stocks) ≡ reverse (filter (overlaps_stock path) stocks)
 put_taken path new stocks at more away =
     let all = away_all path stocks away in
-    ap (λ (ts : List Stock). taken_stocks (map path_of ts) (put_stock new stocks)) (paths_beside path new stocks at all)
-    ∙ chosen_taken (overlaps_beside path) (put_stock new stocks) more
-    ∙ sym (paths_beside path new stocks at all)
+    ap (λ (ts : List Stock). taken_stocks (reverse (map path_of ts)) (put_stock new stocks)) (paths_beside path new stocks at all)
+    ∙ chosen_taken (overlaps_beside path) (stays_beside path) (λ s. refl) (put_stock new stocks) more
+    ∙ ap reverse (sym (paths_beside path new stocks at all))
 
 -- ---- a new stock in the place of one
 
@@ -286,13 +286,13 @@ one_overlaps path (s ∷ ss) apart there =
 
 -- there is room for the one that is there
 pub place_room : (path : List (List ℕ)) (places : List Place) (stocks : List Stock) (paths : List (List (List ℕ))) (removed : List Stock) (room : ℕ) → places ≡ map place_of stocks
-    → are_apart (rows_of stocks) ≡ true → is_some (find (stock_at path) stocks) ≡ true → paths ≡ map path_of_place (filter (overlaps path) places) → removed ≡ [] → length paths ≤ room
+    → are_apart (rows_of stocks) ≡ true → is_some (find (stock_at path) stocks) ≡ true → paths ≡ reverse (map path_of_place (filter (overlaps path) places)) → removed ≡ [] → length paths ≤ room
     → length removed < room
 place_room path places stocks paths removed room placed apart there are none fits =
     by (find (stock_at path) stocks) refl there
   where
-    one : paths ≡ map path_of (listed (find (stock_at path) stocks))
-    one = are ∙ paths_are path places stocks placed ∙ ap (map path_of) (sym (one_overlaps path stocks apart there))
+    one : paths ≡ reverse (map path_of (listed (find (stock_at path) stocks)))
+    one = are ∙ ap reverse (paths_are path places stocks placed ∙ ap (map path_of) (sym (one_overlaps path stocks apart there)))
 
     less : (n m r : ℕ) → n ≡ 0 → m ≡ 1 → m ≤ r → n < r
     less n m r zero_is one_is within = omega (arith, zero_is, one_is, within)
@@ -301,24 +301,25 @@ place_room path places stocks paths removed room placed apart there are none fit
     by None found never = absurd cc
     by (Some s) found is_there =
         less (length removed) (length paths) room (ap (λ (ss : List Stock). length ss) none)
-        (ap (λ (ps : List (List (List ℕ))). length ps) (one ∙ ap (λ o. map path_of (listed o)) found)) fits
+        (ap (λ (ps : List (List (List ℕ))). length ps) (one ∙ ap (λ o. reverse (map path_of (listed o))) found)) fits
 
 -- ---- the trie with a new stock
 
 -- the trie once a stock was put where none was, and those were taken away that overlap it
 pub among_left : (path : List (List ℕ)) (new : Stock) (old inserted left : List Place) (stocks : List Stock) (paths : List (List (List ℕ))) → old ≡ map place_of stocks → path ≡ new.row.path
-    → ascends old ≡ true → ascends inserted ≡ true → is_some (find (stock_at path) stocks) ≡ false → paths ≡ map path_of_place (filter (overlaps path) old)
+    → ascends old ≡ true → ascends inserted ≡ true → is_some (find (stock_at path) stocks) ≡ false → paths ≡ reverse (map path_of_place (filter (overlaps path) old))
     → inserted ≡ map place_of (put_stock new stocks) → left ≡ map place_of (without_stocks paths (stocks_of inserted))
     → left ≡ map place_of (put_stock new (filter (is_clear_stock path) stocks))
 among_left path new old inserted left stocks paths placed at order more away are put is =
-    is ∙ ap₂ (λ (ps : List (List (List ℕ))) (ss : List Stock). map place_of (without_stocks ps ss)) (are ∙ paths_are path old stocks placed) (seen_as inserted (put_stock new stocks) put)
+    is ∙ ap₂ (λ (ps : List (List (List ℕ))) (ss : List Stock). map place_of (without_stocks ps ss)) (are ∙ ap reverse (paths_are path old stocks placed)) (seen_as inserted (put_stock new stocks) put)
     ∙ ap (map place_of) (put_left path new stocks at (ap ascends (sym placed) ∙ order) (ap ascends (sym put) ∙ more) away)
 
-pub among_taken : (path : List (List ℕ)) (new : Stock) (old inserted : List Place) (stocks was now : List Stock) (paths : List (List (List ℕ))) → old ≡ map place_of stocks → path ≡ new.row.path
-    → ascends inserted ≡ true → is_some (find (stock_at path) stocks) ≡ false → paths ≡ map path_of_place (filter (overlaps path) old)
-    → inserted ≡ map place_of (put_stock new stocks) → was ≡ [] → now ≡ was ++ taken_stocks paths (stocks_of inserted)
-    → now ≡ filter (overlaps_stock path) stocks
-among_taken path new old inserted stocks was now paths placed at more away are put none is =
-    is ∙ ap (λ (ws : List Stock). ws ++ taken_stocks paths (stocks_of inserted)) none
-    ∙ ap₂ (λ (ps : List (List (List ℕ))) (ss : List Stock). taken_stocks ps ss) (are ∙ paths_are path old stocks placed) (seen_as inserted (put_stock new stocks) put)
-    ∙ put_taken path new stocks at (ap ascends (sym put) ∙ more) away
+pub among_taken : (path : List (List ℕ)) (new : Stock) (old inserted : List Place) (stocks was now turned : List Stock) (paths : List (List (List ℕ))) → old ≡ map place_of stocks → path ≡ new.row.path
+    → ascends inserted ≡ true → is_some (find (stock_at path) stocks) ≡ false → paths ≡ reverse (map path_of_place (filter (overlaps path) old))
+    → inserted ≡ map place_of (put_stock new stocks) → was ≡ [] → now ≡ was ++ taken_stocks paths (stocks_of inserted) → turned ≡ reverse now
+    → turned ≡ filter (overlaps_stock path) stocks
+among_taken path new old inserted stocks was now turned paths placed at more away are put none is back =
+    turned_list was now turned (filter (overlaps_stock path) stocks) none
+    (is ∙ ap (λ (ts : List Stock). was ++ ts)
+    (ap₂ (λ (ps : List (List (List ℕ))) (ss : List Stock). taken_stocks ps ss) (are ∙ ap reverse (paths_are path old stocks placed)) (seen_as inserted (put_stock new stocks) put)
+    ∙ put_taken path new stocks at (ap ascends (sym put) ∙ more) away)) back

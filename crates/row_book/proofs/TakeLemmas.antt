@@ -2,11 +2,11 @@
 use Rattle.mat_path.proofs.Elements.{filter_all}
 use Rattle.mat_path.proofs.PathLemmas.{overlap_comm}
 use Rattle.mat_path.proofs.SameNames.{same_names-refl, same_names-sym}
-use Rattle.path_trie.proofs.Lists.{all_filter, all_so, filter_in}
+use Rattle.path_trie.proofs.Lists.{all_filter, all_join, all_so, filter_in}
 use Rattle.path_trie.proofs.Values.{apart, apart_behind}
-use Rattle.std.proofs.Common.{◌≡◌, ℕ, suc, ◌+◌, ◌-◌, ◌<◌, ◌≤◌, Bool, true, false, not, cond, ◌&&◌, List, [], ◌∷◌, ◌++◌, length, map, drop, find, slice_index_or as get_or, Option, Some, None, refl, ◌∙◌, sym, ap, ap₂, arith}
-use Rattle.std.proofs.lemmas.Bool.{and_parts, not-true}
-use Rattle.std.proofs.lemmas.List.{append_assoc, drop_more, length-append, length-drop}
+use Rattle.std.proofs.Common.{◌≡◌, ℕ, suc, ◌+◌, ◌-◌, ◌<◌, ◌≤◌, Bool, true, false, not, cond, ◌&&◌, List, [], ◌∷◌, ◌++◌, length, map, drop, reverse, find, slice_index_or as get_or, Option, Some, None, refl, ◌∙◌, sym, ap, ap₂, arith}
+use Rattle.std.proofs.lemmas.Bool.{and_from, and_parts, not-true}
+use Rattle.std.proofs.lemmas.List.{append-nil, append_assoc, drop_more, reverse-append, reverse-reverse, length-append, length-drop}
 use Rattle.std.specs.List.{filter, list_all}
 use Rattle.mat_model.specs.Rows.{comes_before}
 use Rattle.path_trie.specs.Entries.{ascends, is_elsewhere as is_place_elsewhere, is_less, overlaps, path_of as path_of_place, without}
@@ -98,28 +98,67 @@ paths_away q s ss later =
     all_in path_of (isn't_of s) (λ t. is_stock_elsewhere t.row.path s) (λ t. refl) (filter q ss)
     ∙ all_so (comes_later s) (λ t. is_stock_elsewhere t.row.path s) (λ t less. earlier_elsewhere s t less) (filter q ss) (all_filter (comes_later s) q ss later)
 
+-- the last path of some is taken last
+without_last : (paths : List (List (List ℕ))) (p : List (List ℕ)) (stocks : List Stock) → without_stocks (paths ++ p ∷ []) stocks ≡ filter (is_stock_elsewhere p) (without_stocks paths stocks)
+without_last [] p stocks = refl
+without_last (q ∷ qs) p stocks = without_last qs p (filter (is_stock_elsewhere q) stocks)
+
+taken_last : (paths : List (List (List ℕ))) (p : List (List ℕ)) (stocks : List Stock)
+    → taken_stocks (paths ++ p ∷ []) stocks ≡ taken_stocks paths stocks ++ listed (find (stock_at p) (without_stocks paths stocks))
+taken_last [] p stocks = append-nil (listed (find (stock_at p) stocks))
+taken_last (q ∷ qs) p stocks =
+    ap (λ (ts : List Stock). listed (find (stock_at q) stocks) ++ ts) (taken_last qs p (filter (is_stock_elsewhere q) stocks))
+    ∙ sym (append_assoc (listed (find (stock_at q) stocks)) (taken_stocks qs (filter (is_stock_elsewhere q) stocks))
+    (listed (find (stock_at p) (without_stocks qs (filter (is_stock_elsewhere q) stocks)))))
+
+-- what all of a list pass, all of it pass the other way round
+all_back : {X : Type 0} (p : X → Bool) (xs : List X) → list_all p xs ≡ true → list_all p (reverse xs) ≡ true
+all_back p [] all = refl
+all_back p (x ∷ xs) all =
+    let parts = and_parts (p x) (list_all p xs) all in
+    ap (list_all p) (reverse-append (x ∷ []) xs) ∙ all_join p (reverse xs) (x ∷ []) (all_back p xs parts.1) (and_from (p x) true parts.0 refl)
+
+-- the paths of those that pass a test, the last first
+abbrev pub back_paths : (Stock → Bool) → List Stock → List (List (List ℕ))
+back_paths q stocks = reverse (map path_of (filter q stocks))
+
 -- what is taken by the paths of those that pass a test is what passes it
-pub chosen_left : (q r : Stock → Bool) → ((s : Stock) → r s ≡ not (q s)) → (stocks : List Stock) → in_line stocks ≡ true
-    → without_stocks (map path_of (filter q stocks)) stocks ≡ filter r stocks
+pub chosen_left : (q r : Stock → Bool) → ((s : Stock) → r s ≡ not (q s)) → (stocks : List Stock) → in_line stocks ≡ true → without_stocks (back_paths q stocks) stocks ≡ filter r stocks
 chosen_left q r opposite [] line = refl
 chosen_left q r opposite (s ∷ ss) line =
     let parts = line_parts s ss line in by (q s) parts.0 (chosen_left q r opposite ss parts.1) ∙ ap (λ b. cond b (s ∷ filter r ss) (filter r ss)) (sym (opposite s))
   where
-    by : (b : Bool) → list_all (comes_later s) ss ≡ true → without_stocks (map path_of (filter q ss)) ss ≡ filter r ss
-        → without_stocks (map path_of (cond b (s ∷ filter q ss) (filter q ss))) (s ∷ ss) ≡ cond (not b) (s ∷ filter r ss) (filter r ss)
-    by true later e = ap (without_stocks (map path_of (filter q ss))) (front_gone s ss later) ∙ e
-    by false later e = front_stays (map path_of (filter q ss)) s ss (paths_away q s ss later) ∙ ap (λ (ts : List Stock). s ∷ ts) e
+    stays : list_all (comes_later s) ss ≡ true → without_stocks (back_paths q ss) ss ≡ filter r ss → without_stocks (back_paths q ss) (s ∷ ss) ≡ s ∷ filter r ss
+    stays later e =
+        front_stays (back_paths q ss) s ss (all_back (isn't_of s) (map path_of (filter q ss)) (paths_away q s ss later)) ∙ ap (λ (ts : List Stock). s ∷ ts) e
 
-pub chosen_taken : (q : Stock → Bool) (stocks : List Stock) → in_line stocks ≡ true → taken_stocks (map path_of (filter q stocks)) stocks ≡ filter q stocks
-chosen_taken q [] line = refl
-chosen_taken q (s ∷ ss) line = let parts = line_parts s ss line in by (q s) parts.0 (chosen_taken q ss parts.1)
-  where
-    by : (b : Bool) → list_all (comes_later s) ss ≡ true → taken_stocks (map path_of (filter q ss)) ss ≡ filter q ss
-        → taken_stocks (map path_of (cond b (s ∷ filter q ss) (filter q ss))) (s ∷ ss) ≡ cond b (s ∷ filter q ss) (filter q ss)
+    by : (b : Bool) → list_all (comes_later s) ss ≡ true → without_stocks (back_paths q ss) ss ≡ filter r ss
+        → without_stocks (reverse (map path_of (cond b (s ∷ filter q ss) (filter q ss)))) (s ∷ ss) ≡ cond (not b) (s ∷ filter r ss) (filter r ss)
     by true later e =
-        ap₂ (λ (o : Option Stock) (ts : List Stock). listed o ++ taken_stocks (map path_of (filter q ss)) ts) (front_found s ss) (front_gone s ss later)
-        ∙ ap (λ (ts : List Stock). s ∷ ts) e
-    by false later e = front_left (map path_of (filter q ss)) s ss (paths_away q s ss later) ∙ e
+        ap (λ (ps : List (List (List ℕ))). without_stocks ps (s ∷ ss)) (reverse-append (s.row.path ∷ []) (map path_of (filter q ss)))
+        ∙ without_last (back_paths q ss) s.row.path (s ∷ ss)
+        ∙ ap (filter (is_stock_elsewhere s.row.path)) (stays later e)
+        ∙ front_gone s (filter r ss) (all_filter (comes_later s) r ss later)
+    by false later e = stays later e
+
+pub chosen_taken : (q r : Stock → Bool) → ((s : Stock) → r s ≡ not (q s)) → (stocks : List Stock) → in_line stocks ≡ true → taken_stocks (back_paths q stocks) stocks ≡ reverse (filter q stocks)
+chosen_taken q r opposite [] line = refl
+chosen_taken q r opposite (s ∷ ss) line =
+    let parts = line_parts s ss line in by (q s) parts.0 (chosen_left q r opposite ss parts.1) (chosen_taken q r opposite ss parts.1)
+  where
+    away : list_all (comes_later s) ss ≡ true → list_all (isn't_of s) (back_paths q ss) ≡ true
+    away later = all_back (isn't_of s) (map path_of (filter q ss)) (paths_away q s ss later)
+
+    by : (b : Bool) → list_all (comes_later s) ss ≡ true → without_stocks (back_paths q ss) ss ≡ filter r ss → taken_stocks (back_paths q ss) ss ≡ reverse (filter q ss)
+        → taken_stocks (reverse (map path_of (cond b (s ∷ filter q ss) (filter q ss)))) (s ∷ ss) ≡ reverse (cond b (s ∷ filter q ss) (filter q ss))
+    by true later left e =
+        ap (λ (ps : List (List (List ℕ))). taken_stocks ps (s ∷ ss)) (reverse-append (s.row.path ∷ []) (map path_of (filter q ss)))
+        ∙ taken_last (back_paths q ss) s.row.path (s ∷ ss)
+        ∙ ap₂ (λ (ts us : List Stock). ts ++ listed (find (stock_at s.row.path) us)) (front_left (back_paths q ss) s ss (away later) ∙ e)
+        (front_stays (back_paths q ss) s ss (away later) ∙ ap (λ (ts : List Stock). s ∷ ts) left)
+        ∙ ap (λ o. reverse (filter q ss) ++ listed o) (front_found s (filter r ss))
+        ∙ sym (reverse-append (s ∷ []) (filter q ss))
+    by false later left e = front_left (back_paths q ss) s ss (away later) ∙ e
 
 -- the paths of the places that overlap a path
 pub paths_are : (path : List (List ℕ)) (places : List Place) (stocks : List Stock) → places ≡ map place_of stocks
@@ -135,16 +174,22 @@ paths_are path places stocks placed =
 
 -- those that overlap a path are taken
 pub overlapping_left : (path : List (List ℕ)) (paths : List (List (List ℕ))) (places left : List Place) (stocks : List Stock) → places ≡ map place_of stocks → ascends places ≡ true
-    → paths ≡ map path_of_place (filter (overlaps path) places) → left ≡ map place_of (without_stocks paths stocks) → left ≡ map place_of (filter (is_clear_stock path) stocks)
+    → paths ≡ reverse (map path_of_place (filter (overlaps path) places)) → left ≡ map place_of (without_stocks paths stocks) → left ≡ map place_of (filter (is_clear_stock path) stocks)
 overlapping_left path paths places left stocks placed order are is =
-    is ∙ ap (λ (ps : List (List (List ℕ))). map place_of (without_stocks ps stocks)) (are ∙ paths_are path places stocks placed)
+    is ∙ ap (λ (ps : List (List (List ℕ))). map place_of (without_stocks ps stocks)) (are ∙ ap reverse (paths_are path places stocks placed))
     ∙ ap (map place_of) (chosen_left (overlaps_stock path) (is_clear_stock path) (λ s. refl) stocks (ap ascends (sym placed) ∙ order))
 
-pub overlapping_taken : (path : List (List ℕ)) (paths : List (List (List ℕ))) (places : List Place) (stocks old new : List Stock) → places ≡ map place_of stocks → ascends places ≡ true
-    → paths ≡ map path_of_place (filter (overlaps path) places) → old ≡ [] → new ≡ old ++ taken_stocks paths stocks → new ≡ filter (overlaps_stock path) stocks
-overlapping_taken path paths places stocks old new placed order are none is =
-    is ∙ ap₂ (λ (os : List Stock) (ps : List (List (List ℕ))). os ++ taken_stocks ps stocks) none (are ∙ paths_are path places stocks placed)
-    ∙ chosen_taken (overlaps_stock path) stocks (ap ascends (sym placed) ∙ order)
+-- a list of those that were taken is turned round
+pub turned_list : (old new turned taken : List Stock) → old ≡ [] → new ≡ old ++ reverse taken → turned ≡ reverse new → turned ≡ taken
+turned_list old new turned taken none is back = back ∙ ap reverse (is ∙ ap (λ (os : List Stock). os ++ reverse taken) none) ∙ reverse-reverse taken
+
+pub overlapping_taken : (path : List (List ℕ)) (paths : List (List (List ℕ))) (places : List Place) (stocks old new turned : List Stock) → places ≡ map place_of stocks → ascends places ≡ true
+    → paths ≡ reverse (map path_of_place (filter (overlaps path) places)) → old ≡ [] → new ≡ old ++ taken_stocks paths stocks → turned ≡ reverse new → turned ≡ filter (overlaps_stock path) stocks
+overlapping_taken path paths places stocks old new turned placed order are none is back =
+    turned_list old new turned (filter (overlaps_stock path) stocks) none
+    (is ∙ ap (λ (ts : List Stock). old ++ ts)
+    (ap (λ (ps : List (List (List ℕ))). taken_stocks ps stocks) (are ∙ ap reverse (paths_are path places stocks placed))
+    ∙ chosen_taken (overlaps_stock path) (is_clear_stock path) (λ s. refl) stocks (ap ascends (sym placed) ∙ order))) back
 
 -- ---- one step of a loop over paths
 

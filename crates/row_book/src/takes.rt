@@ -1,5 +1,5 @@
 // Stocks that come and go.
-ghost use Rattle.std.specs.Prelude.{◌≡◌, ◌+◌, ◌≤◌, ◌<◌, ◌^◌, ◌++◌, [], true, false, is_ok, is_some, find, length, map, if◌then◌else◌, IfErr, IfOk, None, OnOk};
+ghost use Rattle.std.specs.Prelude.{◌≡◌, ◌+◌, ◌≤◌, ◌<◌, ◌^◌, ◌++◌, [], true, false, is_ok, is_some, find, length, map, reverse, if◌then◌else◌, IfErr, IfOk, None, OnOk};
 ghost use Rattle.std.specs.List.{filter};
 ghost use Rattle.std.specs.Vec.{vec_capacity};
 ghost use Rattle.path_trie.specs.Entries.{overlaps, path_of};
@@ -25,18 +25,28 @@ pub(crate) fn held_all(stocks: &[Stock]) -> u64
     held
 }
 
-// The paths of the stocks that overlap a path, and a list of no stock with room for as many.
+// Turns a list round.
+fn turn<X: Drop>(items: &mut Vec<X>)
+    ensures list { items.new.items ≡ reverse items.old.items }
+    ensures capacity { vec_capacity items.new ≡ vec_capacity items.old }
+{
+    items.reverse();
+}
+
+// The paths of the stocks that overlap a path, the last first, so that what is taken by them in turn stands at the end of its folder; and
+// a list of no stock with room for as many.
 pub(crate) fn list_overlapping(
     trie: &Trie<Option<Stock>>,
     path: &Path,
 ) -> Result<(Vec<Path>, Vec<Stock>), Memory>
-    ensures paths { IfOk result (λ got. got.0.items ≡ map path_of (filter (overlaps path.now) trie.now)) }
+    ensures paths { IfOk result (λ got. got.0.items ≡ reverse (map path_of (filter (overlaps path.now) trie.now))) }
     ensures none { IfOk result (λ got. got.1.items ≡ []) }
     ensures room { IfOk result (λ got. length got.0.items ≤ vec_capacity got.1) }
 {
-    let paths = trie.overlapping(path)?;
+    let mut paths = trie.overlapping(path)?;
     let mut removed = Vec::new(*paths.allocator());
     removed.reserve(paths.len())?;
+    turn(&mut paths);
     Ok((paths, removed))
 }
 
@@ -84,7 +94,7 @@ pub(crate) fn take_overlapping(
     removed: &mut Vec<Stock>,
 )
     requires placed { trie.old ≡ map place_of (stocks_of trie.old) }
-    requires paths { paths.now ≡ map path_of (filter (overlaps path.now) trie.old) }
+    requires paths { paths.now ≡ reverse (map path_of (filter (overlaps path.now) trie.old)) }
     requires none { removed.old.items ≡ [] }
     requires room { length paths.now ≤ vec_capacity removed.old }
     ensures trie { trie.new ≡ map place_of (filter (is_clear_stock path.now) (stocks_of trie.old)) }
@@ -92,6 +102,7 @@ pub(crate) fn take_overlapping(
 {
     trie.is_in_order();
     take_each(trie, paths, removed);
+    turn(removed);
 }
 
 // Puts a stock in place of the one at its path, which there is, and gives that.
@@ -137,7 +148,7 @@ fn insert_among(
     requires apart { are_apart (rows_of (stocks_of trie.old)) ≡ true }
     requires at { path.now ≡ stock.row.path }
     requires absent { is_some (find (stock_at path.now) (stocks_of trie.old)) ≡ false }
-    requires paths { paths.now ≡ map path_of (filter (overlaps path.now) trie.old) }
+    requires paths { paths.now ≡ reverse (map path_of (filter (overlaps path.now) trie.old)) }
     requires none { removed.old.items ≡ [] }
     requires room { length paths.now ≤ vec_capacity removed.old }
     ensures trie { trie.new ≡ (if is_ok result then map place_of (put_stock stock (filter (is_clear_stock path.now) (stocks_of trie.old))) else trie.old) }
@@ -149,6 +160,7 @@ fn insert_among(
         Ok(()) => {
             trie.is_in_order();
             take_each(trie, paths, removed);
+            turn(removed);
             Ok(())
         }
         Err(stock) => Err(stock),
@@ -166,7 +178,7 @@ pub(crate) fn place(
     requires placed { trie.old ≡ map place_of (stocks_of trie.old) }
     requires apart { are_apart (rows_of (stocks_of trie.old)) ≡ true }
     requires at { path.now ≡ stock.row.path }
-    requires paths { paths.now ≡ map path_of (filter (overlaps path.now) trie.old) }
+    requires paths { paths.now ≡ reverse (map path_of (filter (overlaps path.now) trie.old)) }
     requires none { removed.old.items ≡ [] }
     requires room { length paths.now ≤ vec_capacity removed.old }
     ensures trie { trie.new ≡ (if is_ok result then map place_of (put_stock stock (filter (is_clear_stock path.now) (stocks_of trie.old))) else trie.old) }

@@ -13,5 +13,5 @@ returns-in-Ok-clause-trie c =
 
 pub returns-in-Ok-clause-removed : goal.returns-in-Ok-clause-removed
 returns-in-Ok-clause-removed c =
-    among_taken c.args.path.now c.args.stock c.args.trie.now c.insert.new.trie (stocks_of c.args.trie.now) c.args.removed.now.items c.take_each.new.removed.items c.args.paths.now
-    c.requires.placed c.requires.at c.is_in_order-in-Ok.ensures c.requires.absent c.requires.paths c.in-Ok.ensures.trie c.requires.none c.take_each.ensures.removed
+    among_taken c.args.path.now c.args.stock c.args.trie.now c.insert.new.trie (stocks_of c.args.trie.now) c.args.removed.now.items c.take_each.new.removed.items c.turn.new.items.items c.args.paths.now
+    c.requires.placed c.requires.at c.is_in_order-in-Ok.ensures c.requires.absent c.requires.paths c.in-Ok.ensures.trie c.requires.none c.take_each.ensures.removed c.turn.ensures.list

@@ -8,5 +8,5 @@ returns-clause-trie c =
 
 pub returns-clause-removed : goal.returns-clause-removed
 returns-clause-removed c =
-    overlapping_taken c.args.path.now c.args.paths.now c.args.trie.now (stocks_of c.args.trie.now) c.args.removed.now.items c.take_each.new.removed.items c.requires.placed c.is_in_order.ensures
-    c.requires.paths c.requires.none c.take_each.ensures.removed
+    overlapping_taken c.args.path.now c.args.paths.now c.args.trie.now (stocks_of c.args.trie.now) c.args.removed.now.items c.take_each.new.removed.items c.turn.new.items.items c.requires.placed c.is_in_order.ensures
+    c.requires.paths c.requires.none c.take_each.ensures.removed c.turn.ensures.list
