@@ -1,6 +1,7 @@
 pub mod Around
 pub mod Below
 pub mod Changed
+pub mod Edits
 pub mod Halves
 pub mod Kept
 pub mod Lists

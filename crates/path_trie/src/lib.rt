@@ -2,6 +2,7 @@
 #![tactic(auto)]
 
 mod change;
+mod edit;
 mod entry;
 mod exchange;
 mod find;
@@ -15,6 +16,7 @@ mod swap;
 mod trie;
 mod walk;
 
+pub use edit::Edit;
 pub use entry::Entry;
 pub use laws::{a_part_hung_back, cover_is_shortest};
 pub use steps::Steps;

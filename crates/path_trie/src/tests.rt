@@ -1,6 +1,6 @@
 ghost use Rattle.std.specs.Prelude.{◌≡◌, ◌<◌};
 
-use crate::{Entry, Steps, Trie, a_part_hung_back, cover_is_shortest};
+use crate::{Edit, Entry, Steps, Trie, a_part_hung_back, cover_is_shortest};
 use mat_path::Path;
 use std::alloc::Global;
 use std::marker::Brand;
@@ -180,6 +180,19 @@ fn first_cut(trie: &mut Trie<u64>, path: &Path) -> Option<(usize, Option<u64>)> 
     }
 }
 
+/// Puts the number of its path's names in place of each value.
+struct NameCounts;
+
+impl Edit<u64> for NameCounts {
+    ghost use Rattle.std.specs.Prelude.{length};
+
+    ghost edited = { λ counts path value. length path };
+
+    fn edit(&self, path: &Path, _value: u64) -> u64 {
+        path.names().len() as u64
+    }
+}
+
 /// A trie with values at `a/b` and `c`.
 fn two_values(alloc: Global) -> Result<Trie<u64>, Fail> {
     let mut trie = Trie::new(alloc);
@@ -268,6 +281,15 @@ fn a_part_is_cut_out_and_another_is_hung_in(rt: HostRuntime) -> Result<(), Fail>
         );
     }
     a_part_hung_back::<u8>();
+    Ok(())
+}
+
+#[test]
+fn values_are_changed_where_they_stand(rt: HostRuntime) -> Result<(), Fail> {
+    let mut trie = two_values(rt.alloc())?;
+    trie.edit(&NameCounts);
+    assert_eq!(rt; trie.get(&Path::read(rt.alloc(), b"a/b")?), Some(&2));
+    assert_eq!(rt; trie.get(&Path::read(rt.alloc(), b"c")?), Some(&1));
     Ok(())
 }
 

@@ -2,10 +2,12 @@ ghost use Rattle.std.specs.Prelude.{◌≡◌, ◌+◌, ◌<◌, ◌≤◌, ◌^
 ghost use Rattle.std.specs.List.{filter, find, list_any, slice_get};
 ghost use Rattle.std.specs.Option.{option_copied, option_map};
 ghost use Rattle.std.specs.Result.{result_ok};
+ghost use Rattle.path_trie.specs.Edits.{edited_entry};
 ghost use Rattle.path_trie.specs.Roots.{kept_if, value_put};
 ghost use Rattle.path_trie.specs.Entries.{ascends, both, cover_of, cut_at, is_behind, is_from, is_high, is_next_under, is_outside, is_under, overlaps, path_of, put, spliced, value_at, value_of, without, without_first};
 
 use crate::change::{put_at, take_at};
+use crate::edit::{Edit, edit_at};
 use crate::entry::Entry;
 use crate::exchange::exchange_at;
 use crate::find::{count_at, get_at};
@@ -113,6 +115,13 @@ impl<V: Drop> Trie<V> {
         ensures { self.new ≡ filter (is_outside path.now) self.old }
     {
         'entries: while self.take_under(path).is_some() {}
+    }
+
+    /// Changes each value where it stands. Takes no memory of its own.
+    pub fn edit<E: Edit<V>>(&mut self, by: &E)
+        ensures { self.new ≡ map (edited_entry (E.edited by.now)) self.old }
+    {
+        edit_at(&mut self.root, by);
     }
 
     /// Exchanges what two maps have at and below a path, if both have something there, and says whether they do; else nothing changes.
