@@ -8,6 +8,7 @@ pub mod Lists
 pub mod Onwards
 pub mod Order
 pub mod Parted
+pub mod PartValues
 pub mod Picks
 pub mod Pulls
 pub mod RootLemmas

@@ -128,7 +128,7 @@ under_less path y z h k = by (path_cmp y.path z.path) refl
         (between path z.path y.path (not_both path z.path (past_behind path z k)) (ap is_lt (path_cmp_total.antisymm z.path y.path ∙ ap ordering_reverse e)) h))
 
 -- what isn't before a path, and neither at nor below it, is past it
-from_past : {V : Type 0} (path : List (List ℕ)) (x : Entry V) → is_before path x ≡ false → is_under path x ≡ false → is_past path x ≡ true
+pub from_past : {V : Type 0} (path : List (List ℕ)) (x : Entry V) → is_before path x ≡ false → is_under path x ≡ false → is_past path x ≡ true
 from_past path x b u = ap (λ t. is_behind path x && not t) u ∙ and_from (is_behind path x) true (by (path_cmp x.path path) refl) refl
   where
     by : (o : Ordering) → path_cmp x.path path ≡ o → is_lt (path_cmp path x.path) ≡ true
