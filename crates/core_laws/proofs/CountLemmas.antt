@@ -1,6 +1,9 @@
 -- The counts of the state store and of the disk beside a history that goes on.
-use Rattle.std.proofs.Common.{◌≡◌, ◌≤◌, ℕ, Bool, true, inl, inr, List, [], ◌∷◌, ◌++◌, Option, Some, None, refl, sym, subst, arith}
+use Rattle.std.proofs.Common.{◌≡◌, ◌<◌, ◌≤◌, ◌+◌, ◌-◌, ◌^◌, ℕ, ltb, Bool, true, false, inl, inr, List, [], ◌∷◌, ◌++◌, Option, Some, None, refl, sym, subst, arith}
+use Rattle.std.proofs.Math.Nat.{min-eq_left, min-eq_right}
+use Rattle.std.proofs.lemmas.Bool.{ltb-false, ltb-true}
 use Rattle.std.proofs.lemmas.List.Elements.{Contains-append_cases}
+use Rattle.std.specs.Prelude.{min}
 use Rattle.mat_path.proofs.Elements.{contains_cases}
 use Rattle.mat_model.specs.declared.answers.Device.{Device}
 use Rattle.mat_model.specs.declared.answers.FaultNote.{FaultNote}
@@ -50,6 +53,27 @@ entry_counted history entry keeper disk more_keeper more_disk up disk_up within 
     ]
   ];
 }
+
+-- a count that rose, up to the last number that 64 bits hold, is one that a note tells
+pub rose_noted : (note : FaultNote) → note.before < 2 ^ 64 → note.after < 2 ^ 64 → min (note.before + 1) (2 ^ 64 - 1) ≤ note.after → HasRisen note
+rose_noted note from within rose = by (ltb note.before note.after) refl
+  where
+    top : (b : Bool) → ltb (note.before + 1) (2 ^ 64 - 1) ≡ b → note.after ≤ note.before → 2 ^ 64 - 1 ≤ note.after
+    top true is more =
+        let small = ltb-true (note.before + 1) (2 ^ 64 - 1) is in
+        let here : note.before + 1 ≤ note.after =
+        subst (λ (n : ℕ). n ≤ note.after) (min-eq_left (omega (arith, small))) rose in
+        absurd (omega (arith, here, more))
+    top false is more =
+        let big = ltb-false (note.before + 1) (2 ^ 64 - 1) is in
+        subst (λ (n : ℕ). n ≤ note.after) (min-eq_right big) rose
+
+    by : (b : Bool) → ltb note.before note.after ≡ b → HasRisen note
+    by true is = inl (ltb-true note.before note.after is)
+    by false is =
+        let more = ltb-false note.before note.after is in
+        let last : 2 ^ 64 - 1 ≤ note.after = top (ltb (note.before + 1) (2 ^ 64 - 1)) refl more in
+        inr ((omega (arith, more, last, from)), omega (arith, last, within))
 
 -- a count that rose isn't 0
 risen_once : (note : FaultNote) (count : ℕ) → HasRisen note → note.after ≤ count → 1 ≤ count

@@ -2,8 +2,8 @@
 use Rattle.std.proofs.Common.{◌≡◌, ◌≢◌, ℕ, ◌+◌, Bool, true, false, not, ◌||◌, ◌⊎◌, inl, inr, cond, List, [], ◌∷◌, Option, Some, None, refl, sym, ap, ap₂, subst, ◌∙◌, map, Contains}
 use Rattle.std.proofs.lemmas.Bool.{and_parts, both_ways, false_from_ne_true, not-true}
 use Rattle.std.specs.List.{filter, list_any}
-use Rattle.std.specs.Option.{ForSome, option_map}
-use Rattle.mat_path.specs.Names.{is_path, joined, overlap, same_name, same_names}
+use Rattle.std.specs.Option.{ForSome, is_some, option_map}
+use Rattle.mat_path.specs.Names.{is_path, joined, overlap, path_of, same_name, same_names}
 use Rattle.mat_path.proofs.Elements.{contains_filter, contains_first, contains_map, contains_more, each_fails, filtered_contains, mapped_contains, none_passes}
 use Rattle.mat_path.proofs.Overlaps.{overlap-refl}
 use Rattle.mat_path.proofs.SameNames.{same_name-eq, same_name-refl, same_names-eq, same_names-refl, same_names_false}
@@ -20,12 +20,13 @@ use Rattle.model_laws.specs.KeptRules.{KeptAscend, path_of_kept}
 use Rattle.model_laws.specs.StoredRules.{IsStored}
 use Rattle.model_laws.proofs.BooksLists.{any_contains, contains_any}
 use Rattle.model_laws.proofs.BooksRows.{apart_same}
-use Rattle.model_laws.proofs.KeptOrder.{store_ascends, stored_cases}
+use Rattle.model_laws.proofs.KeptOrder.{ascends_filtered, store_ascends, stored_cases}
 use Rattle.keep_port.specs.Rows.{ascend, put, put_all, remove_all, touch_all, touched}
 use Rattle.keep_port.specs.declared.row.RawRow.{RawRow}
 use Rattle.keep_port.proofs.Ordered.{ascend_put, ascend_removed, ascend_stored}
-use Rattle.row_bytes.specs.Rows.{row_bytes}
-use Rattle.core_laws.specs.Stored.{AreDropped, AreSplit, IsOneOf, IsReadAmong, IsReadAs, IsReadFrom, IsStore, has_bytes, identity_of, is_left, is_new_at, raw_of, raw_row, touch_of, wants_bytes}
+use Rattle.row_bytes.specs.Rows.{IsRow, row_bytes}
+use Rattle.row_bytes.specs.declared.row.KeptTree.{KeptTree}
+use Rattle.core_laws.specs.Stored.{AreDropped, AreSplit, IsOneOf, IsReadAmong, IsReadAs, IsReadFrom, IsStore, has_bytes, identity_of, is_left, is_new_at, is_old, kept_read, raw_of, raw_row, touch_of, wants_bytes}
 use Rattle.core_laws.proofs.StoreLemmas.{AreOfPaths, IsStoredBy, in_stored, kept_from, kept_once, kept_put, kept_stays, listed_named, none_there, other_text, put_from, raw_put, raw_stays, removed_from, removed_stays, same_raws, spelled, spelled_once}
 
 -- ---- members alone
@@ -399,6 +400,23 @@ store_told identity kept rows up read from = record {
   others = λ raw among. let of = read raw among in record { one = of.one; among = of.among; same = raw_is identity raw of.one of.read };
   paths = λ one among. let of = from one among in (spelled of.raw.path one.path of.read.path).1;
 }
+
+-- a row is read as a kept one, where its identity, if it has one, is the daemon's
+pub row_read_as : (identity : ℕ) (raw : RawRow) (path : List (List ℕ)) (row : KeptTree) → path_of raw.path ≡ Some path → IsRow raw.body row →
+    ((found : ℕ) → row.identity ≡ Some found → found ≡ identity) → IsReadAs identity raw (kept_read path row raw)
+row_read_as identity raw path row spells is own = record { path = spells; body = by row.identity refl; last = refl }
+  where
+    by : (o : Option ℕ) → row.identity ≡ o → IsRow raw.body (record { tree = row.tree; identity = cond (is_some o) (Some identity) None })
+    by None none = subst (λ (i : Option ℕ). IsRow raw.body (record { tree = row.tree; identity = i })) none is
+    by (Some found) some =
+        subst (λ (i : Option ℕ). IsRow raw.body (record { tree = row.tree; identity = i })) (some ∙ ap (λ (n : ℕ). Some n) (own found some)) is
+
+-- the paths of those of the first version that aren't lost name them
+pub old_named : (lost : List (List (List ℕ))) (kept : List KeptRow) (one : KeptRow) → KeptAscend kept → Contains kept one → is_found lost one ≡ true →
+    list_any (same_names one.path) (map path_of_kept (filter is_old (filter (is_found lost) kept))) ≡ not one.new
+old_named lost kept one asc among found =
+    listed_named is_old (filter (is_found lost) kept) one (ascends_filtered path_of_kept (is_found lost) kept asc)
+    (contains_filter (is_found lost) kept one found among)
 
 -- the rows of an opening are kept as they were, where the first version's are those that it names
 found_kept : (opening : Opening) (stamp : ℕ) (kept : List KeptRow) →

@@ -1,6 +1,7 @@
 -- The rows of the state store beside the kept rows of a point, and the counts of faults beside a history.
 use Rattle.std.specs.Prelude.{◌≡◌, ◌≤◌, ◌&&◌, ◌⊎◌, ℕ, Bool, true, false, not, if◌then◌else◌, List, Option, Some, None}
 use Rattle.std.specs.List.{Contains, list_any}
+use Rattle.std.specs.Option.{is_some}
 use Rattle.mat_path.specs.Names.{is_path, joined, path_of, same_names}
 use Rattle.mat_model.specs.declared.answers.Device.TheVariants as device
 use Rattle.mat_model.specs.declared.answers.FaultNote.{FaultNote}
@@ -16,6 +17,7 @@ use Rattle.keep_port.specs.Rows.{ascend}
 use Rattle.keep_port.specs.declared.row.RawRow.{RawRow}
 use Rattle.keep_port.specs.declared.row.Touch.{Touch}
 use Rattle.row_bytes.specs.Rows.{IsRow, row_bytes}
+use Rattle.row_bytes.specs.declared.row.KeptTree.{KeptTree}
 
 -- ---- rows
 
@@ -99,6 +101,14 @@ pub record IsReadFrom (identity : ℕ) (rows : List RawRow) (kept : KeptRow) : T
   pub raw : RawRow
   pub among : Contains rows raw
   pub read : IsReadAs identity raw kept
+
+-- a row that was read from the bytes of one that is told, as a kept row at a path
+abbrev pub kept_read : List (List ℕ) → KeptTree → RawRow → KeptRow
+kept_read path row raw = record { path = path; tree = row.tree; last = raw.last; new = is_some row.identity }
+
+-- whether the bytes of a kept row are of the first version
+abbrev pub is_old : KeptRow → Bool
+is_old kept = not kept.new
 
 -- ---- entries that leave the kept rows
 

@@ -1,4 +1,4 @@
-ghost use Rattle.std.specs.Prelude.{◌≡◌, ◌≤◌, ℕ, Bool, true, List, [], ◌∷◌, ◌++◌, Option, Some};
+ghost use Rattle.std.specs.Prelude.{◌≡◌, ◌<◌, ◌≤◌, ◌+◌, ◌-◌, ◌^◌, min, ℕ, Bool, true, List, [], ◌∷◌, ◌++◌, Option, Some};
 ghost use Rattle.mat_model.specs.declared.answers.Device.{Device};
 ghost use Rattle.mat_model.specs.declared.answers.FaultNote.{FaultNote};
 ghost use Rattle.mat_model.specs.declared.entries.Entry.{Entry};
@@ -23,6 +23,11 @@ pub fn entry_is_counted()
     ensures { (history : List Entry) (entry : Entry) (keeper disk more_keeper more_disk : ℕ) → keeper ≤ more_keeper → disk ≤ more_disk →
         IsNoteWithin more_keeper (note_of entry.reply) → HasDiskRisen more_disk (note_of_end entry.event) → AreCounted history keeper disk →
         AreCounted (history ++ entry ∷ []) more_keeper more_disk }
+{}
+
+/// A device's count that rose, or stands at the last number that 64 bits hold, is one that the note of its failure may tell.
+pub fn risen_count_is_noted()
+    ensures { (note : FaultNote) → note.before < 2 ^ 64 → note.after < 2 ^ 64 → min (note.before + 1) (2 ^ 64 - 1) ≤ note.after → HasRisen note }
 {}
 
 /// The disk's count isn't 0 where a job failed by a device whose count rose, and where, if this is the disk, the count stands no lower than its note says.

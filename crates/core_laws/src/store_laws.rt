@@ -1,7 +1,7 @@
 ghost use Rattle.std.specs.Prelude.{◌≡◌, ℕ, Bool, List, [], ◌∷◌, map, filter, true, false, not, Some, None, Option};
 ghost use Rattle.std.specs.List.{Contains, list_any};
 ghost use Rattle.std.specs.Option.{ForSome, option_map};
-ghost use Rattle.mat_path.specs.Names.{is_path, same_names};
+ghost use Rattle.mat_path.specs.Names.{is_path, path_of, same_names};
 ghost use Rattle.mat_model.specs.declared.answers.Gone.{Gone};
 ghost use Rattle.mat_model.specs.declared.answers.Recorded.TheVariants as recorded;
 ghost use Rattle.mat_model.specs.declared.answers.Reply.TheVariants as reply;
@@ -25,7 +25,9 @@ ghost use Rattle.model_laws.specs.RowRules.{served_at};
 ghost use Rattle.model_laws.specs.StoredRules.{IsStored};
 ghost use Rattle.keep_port.specs.Rows.{ascend, put_all, remove_all, touch_all};
 ghost use Rattle.keep_port.specs.declared.row.RawRow.{RawRow};
-ghost use Rattle.core_laws.specs.Stored.{AreDropped, AreSplit, IsReadAmong, IsReadFrom, IsStore, has_bytes, is_left, leaves_kept, raw_of, touch_of, wants_bytes};
+ghost use Rattle.row_bytes.specs.Rows.{IsRow};
+ghost use Rattle.row_bytes.specs.declared.row.KeptTree.{KeptTree};
+ghost use Rattle.core_laws.specs.Stored.{AreDropped, AreSplit, IsReadAmong, IsReadAs, IsReadFrom, IsStore, has_bytes, is_left, is_old, kept_read, leaves_kept, raw_of, touch_of, wants_bytes};
 
 /// The kept rows determine the rows of the state store: two that have them have the same rows, in one order.
 pub fn stores_are_alike()
@@ -90,6 +92,19 @@ pub fn told_rows_are_store()
     ensures { (identity : ℕ) (kept : List KeptRow) (rows : List RawRow) → ascend rows ≡ true →
         ((raw : RawRow) → Contains rows raw → IsReadAmong identity kept raw) →
         ((one : KeptRow) → Contains kept one → IsReadFrom identity rows one) → IsStore identity kept rows }
+{}
+
+/// A row that is told is read as a kept one, where its path is spelled so and its bytes are a row, with the daemon's identity if it has one.
+pub fn row_is_read_as_kept()
+    ensures { (identity : ℕ) (raw : RawRow) (path : List (List ℕ)) (row : KeptTree) → path_of raw.path ≡ Some path → IsRow raw.body row →
+        ((found : ℕ) → row.identity ≡ Some found → found ≡ identity) → IsReadAs identity raw (kept_read path row raw) }
+{}
+
+/// The paths of the kept rows of the first version that aren't lost, as a list, name exactly these of those that aren't lost.
+pub fn old_rows_are_named()
+    ensures { (lost : List (List (List ℕ))) (kept : List KeptRow) (one : KeptRow) → KeptAscend kept → Contains kept one →
+        is_found lost one ≡ true →
+        list_any (same_names one.path) (map path_of_kept (filter is_old (filter (is_found lost) kept))) ≡ not one.new }
 {}
 
 /// An opening keeps, of some kept rows, those that aren't lost, as they are, where its rows are these, and its rows of the first version are those
