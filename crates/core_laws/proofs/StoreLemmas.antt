@@ -1,5 +1,5 @@
 -- The rows of a state store and kept rows, element by element: which there are once one is put, or some are removed, and when two stores are alike.
-use Rattle.std.proofs.Common.{◌≡◌, ◌≢◌, ℕ, Bool, true, false, not, ◌⊎◌, inl, inr, cond, List, [], ◌∷◌, Some, None, Less, Equal, Greater, refl, sym, ap, ap₂, subst, ◌∙◌, map, Contains, arith}
+use Rattle.std.proofs.Common.{◌≡◌, ◌≢◌, ℕ, Bool, true, false, not, ◌⊎◌, inl, inr, cond, List, [], ◌∷◌, ◌++◌, Some, None, Less, Equal, Greater, refl, sym, ap, ap₂, subst, ◌∙◌, map, Contains, arith}
 use Rattle.std.proofs.lemmas.Bool.{and_parts, both_ways, false_from_ne_true, not-true}
 use Rattle.std.proofs.lemmas.Cmp.{nat_list_cmp_total}
 use Rattle.std.proofs.lemmas.List.Elements.{Contains-append_cases, Contains-append_left, Contains-append_right}
@@ -95,6 +95,19 @@ same_raws (row ∷ rows) (other ∷ others) up over to from =
 
     rest : (r : RawRow) (rs : List RawRow) (raw : RawRow) → Contains (r ∷ rs) raw → (r ≢ raw) → Contains rs raw
     rest r rs raw among differs = elim (contains_cases r rs raw among) [ inl same ↦ absurd (differs same) | inr more ↦ more ]
+
+-- the last one of rows in order is at another path than those before
+pub last_differs : (rows : List RawRow) (last raw : RawRow) → ascend (rows ++ last ∷ []) ≡ true → Contains rows raw → raw.path ≢ last.path
+last_differs [] last raw up among = absurd (none_there among)
+last_differs (row ∷ rows) last raw up among =
+    let ups = and_parts (list_all (is_greater row.path) (rows ++ last ∷ [])) (ascend (rows ++ last ∷ [])) up in
+    elim (contains_cases row rows raw among) [
+      | inl same ↦
+          subst (λ (r : RawRow). r.path ≢ last.path) same
+          (less_differs row.path last.path
+          (contains_all (is_greater row.path) (rows ++ last ∷ []) last ups.0 (Contains-append_right rows (last ∷ []) last (contains_first last []))))
+      | inr more ↦ last_differs rows last raw ups.1 more
+    ]
 
 -- ---- one row is put
 
@@ -207,6 +220,20 @@ kept_stays new (row ∷ kept) k differs among =
     by false true other cases rest = contains_more new (row ∷ kept) k among
     by false false other (inl one) rest = subst (λ (r : KeptRow). Contains (row ∷ put_kept new kept) r) one (contains_first row (put_kept new kept))
     by false false other (inr more) rest = contains_more row (put_kept new kept) k (rest more)
+
+-- what is kept once one was put is that one, or was kept
+pub put_among : (new : KeptRow) (kept : List KeptRow) (k : KeptRow) → Contains (put_kept new kept) k → (new ≡ k) ⊎ Contains kept k
+put_among new [] k among = contains_cases new [] k among
+put_among new (row ∷ kept) k among = by (same_names new.path row.path) (comes_before new.path row.path) among (put_among new kept k)
+  where
+    by : (b c : Bool) → Contains (cond b (new ∷ kept) (cond c (new ∷ row ∷ kept) (row ∷ put_kept new kept))) k →
+        (Contains (put_kept new kept) k → (new ≡ k) ⊎ Contains kept k) → (new ≡ k) ⊎ Contains (row ∷ kept) k
+    by true c here rest = elim (contains_cases new kept k here) [ inl same ↦ inl same | inr more ↦ inr (contains_more row kept k more) ]
+    by false true here rest = contains_cases new (row ∷ kept) k here
+    by false false here rest = elim (contains_cases row (put_kept new kept) k here) [
+      | inl same ↦ inr (subst (λ (r : KeptRow). Contains (row ∷ kept) r) same (contains_first row kept))
+      | inr more ↦ elim (rest more) [ inl one ↦ inl one | inr was ↦ inr (contains_more row kept k was) ]
+    ]
 
 -- of kept rows among which a row is put, each is that row, or was there and is at another path
 pub kept_from : (row : Row) (kept : List KeptRow) (one : KeptRow) → KeptAscend kept → Contains (put_kept (kept_row row) kept) one →

@@ -1,10 +1,11 @@
 -- What calls of the state store make of its rows beside kept rows: removals, puts, and new last uses.
-use Rattle.std.proofs.Common.{◌≡◌, ◌≢◌, ℕ, ◌+◌, Bool, true, false, not, ◌||◌, ◌⊎◌, inl, inr, cond, List, [], ◌∷◌, Option, Some, None, refl, sym, ap, ap₂, subst, ◌∙◌, map, Contains}
+use Rattle.std.proofs.Common.{◌≡◌, ◌≢◌, ℕ, ◌+◌, Bool, true, false, not, ◌||◌, ◌⊎◌, inl, inr, cond, List, [], ◌∷◌, ◌++◌, Option, Some, None, refl, sym, ap, ap₂, subst, ◌∙◌, map, Contains}
 use Rattle.std.proofs.lemmas.Bool.{and_parts, both_ways, false_from_ne_true, not-true}
+use Rattle.std.proofs.lemmas.List.Elements.{Contains-append_cases, Contains-append_left, Contains-append_right}
 use Rattle.std.specs.List.{filter, list_any}
 use Rattle.std.specs.Option.{ForSome, is_some, option_map}
 use Rattle.mat_path.specs.Names.{is_path, joined, overlap, path_of, same_name, same_names}
-use Rattle.mat_path.proofs.Elements.{contains_filter, contains_first, contains_map, contains_more, each_fails, filtered_contains, mapped_contains, none_passes}
+use Rattle.mat_path.proofs.Elements.{contains_cases, contains_filter, contains_first, contains_map, contains_more, each_fails, filtered_contains, mapped_contains, none_passes}
 use Rattle.mat_path.proofs.Overlaps.{overlap-refl}
 use Rattle.mat_path.proofs.SameNames.{same_name-eq, same_name-refl, same_names-eq, same_names-refl, same_names_false}
 use Rattle.mat_tree.specs.declared.flat.Flat.{Flat}
@@ -27,7 +28,7 @@ use Rattle.keep_port.proofs.Ordered.{ascend_put, ascend_removed, ascend_stored}
 use Rattle.row_bytes.specs.Rows.{IsRow, row_bytes}
 use Rattle.row_bytes.specs.declared.row.KeptTree.{KeptTree}
 use Rattle.core_laws.specs.Stored.{AreDropped, AreSplit, IsOneOf, IsReadAmong, IsReadAs, IsReadFrom, IsStore, has_bytes, identity_of, is_left, is_new_at, is_old, kept_read, raw_of, raw_row, touch_of, wants_bytes}
-use Rattle.core_laws.proofs.StoreLemmas.{AreOfPaths, IsStoredBy, in_stored, kept_from, kept_once, kept_put, kept_stays, listed_named, none_there, other_text, put_from, raw_put, raw_stays, removed_from, removed_stays, same_raws, spelled, spelled_once}
+use Rattle.core_laws.proofs.StoreLemmas.{AreOfPaths, IsStoredBy, in_stored, kept_from, kept_once, kept_put, kept_stays, listed_named, last_differs, none_there, other_text, put_among, put_from, raw_put, raw_stays, removed_from, removed_stays, same_raws, spelled, spelled_once}
 
 -- ---- members alone
 
@@ -400,6 +401,50 @@ store_told identity kept rows up read from = record {
   others = λ raw among. let of = read raw among in record { one = of.one; among = of.among; same = raw_is identity raw of.one of.read };
   paths = λ one among. let of = from one among in (spelled of.raw.path one.path of.read.path).1;
 }
+
+pub store_none : (identity : ℕ) → IsStore identity [] []
+store_none identity = record {
+  order = refl;
+  each = λ one among. absurd (none_there among);
+  others = λ raw among. absurd (none_there among);
+  paths = λ one among. absurd (none_there among);
+}
+
+-- one row more is told, and is put into its place
+pub store_next : (identity : ℕ) (one : KeptRow) (kept : List KeptRow) (raw : RawRow) (rows : List RawRow) → ascend (rows ++ raw ∷ []) ≡ true →
+    IsReadAs identity raw one → IsStore identity kept rows → IsStore identity (put_kept one kept) (rows ++ raw ∷ [])
+store_next identity one kept raw rows up read store = record {
+  order = up;
+  each = λ k among. elim (put_among one kept k among) [
+    | inl same ↦
+        subst (λ (r : KeptRow). Contains (rows ++ raw ∷ []) (raw_row identity r)) same
+        (subst (Contains (rows ++ raw ∷ [])) is (Contains-append_right rows (raw ∷ []) raw (contains_first raw [])))
+    | inr was ↦ Contains-append_left rows (raw ∷ []) (raw_row identity k) (store.each k was)
+  ];
+  others = λ r among. elim (Contains-append_cases rows (raw ∷ []) r among) [
+    | inl before ↦
+        let of = store.others r before in record {
+          one = of.one;
+          among = kept_stays one kept of.one
+              (λ same.
+              last_differs rows raw r up before
+              (ap (λ (w : RawRow). w.path) of.same ∙ ap joined (sym same) ∙ sym (ap (λ (w : RawRow). w.path) is)))
+              of.among;
+          same = of.same;
+        }
+    | inr last ↦ elim (contains_cases raw [] r last) [
+      | inl same ↦ record { one = one; among = kept_put one kept; same = sym same ∙ is }
+      | inr none ↦ absurd (none_there none)
+    ]
+  ];
+  paths = λ k among. elim (put_among one kept k among) [
+    | inl same ↦ subst (λ (r : KeptRow). is_path r.path ≡ true) same (spelled raw.path one.path read.path).1
+    | inr was ↦ store.paths k was
+  ];
+}
+  where
+    is : raw ≡ raw_row identity one
+    is = raw_is identity raw one read
 
 -- a row is read as a kept one, where its identity, if it has one, is the daemon's
 pub row_read_as : (identity : ℕ) (raw : RawRow) (path : List (List ℕ)) (row : KeptTree) → path_of raw.path ≡ Some path → IsRow raw.body row →

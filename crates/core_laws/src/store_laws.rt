@@ -1,4 +1,4 @@
-ghost use Rattle.std.specs.Prelude.{◌≡◌, ℕ, Bool, List, [], ◌∷◌, map, filter, true, false, not, Some, None, Option};
+ghost use Rattle.std.specs.Prelude.{◌≡◌, ℕ, Bool, List, [], ◌∷◌, ◌++◌, map, filter, true, false, not, Some, None, Option};
 ghost use Rattle.std.specs.List.{Contains, list_any};
 ghost use Rattle.std.specs.Option.{ForSome, option_map};
 ghost use Rattle.mat_path.specs.Names.{is_path, path_of, same_names};
@@ -16,7 +16,7 @@ ghost use Rattle.mat_model.specs.declared.requests.Asked.TheVariants as asked;
 ghost use Rattle.mat_model.specs.declared.requests.CleanMode.{CleanMode};
 ghost use Rattle.mat_model.specs.Cleaning.{gone_row};
 ghost use Rattle.mat_model.specs.History.{Point, after, opened, refusal_note};
-ghost use Rattle.mat_model.specs.Kept.{KeptRow, is_due, is_kept_of, is_listed, overlaps_kept, store_rows};
+ghost use Rattle.mat_model.specs.Kept.{KeptRow, is_due, is_kept_of, is_listed, overlaps_kept, put_kept, store_rows};
 ghost use Rattle.mat_model.specs.Openings.{is_found, opening_rows};
 ghost use Rattle.mat_model.specs.Rows.{are_apart};
 ghost use Rattle.mat_model.specs.WorkState.{Job, path_of_task, running};
@@ -92,6 +92,13 @@ pub fn told_rows_are_store()
     ensures { (identity : ℕ) (kept : List KeptRow) (rows : List RawRow) → ascend rows ≡ true →
         ((raw : RawRow) → Contains rows raw → IsReadAmong identity kept raw) →
         ((one : KeptRow) → Contains kept one → IsReadFrom identity rows one) → IsStore identity kept rows }
+{}
+
+/// So they are where they are read one by one, each put into its place in path order: none is at first, and each further one is.
+pub fn next_row_is_stored()
+    ensures none { (identity : ℕ) → IsStore identity [] [] }
+    ensures next { (identity : ℕ) (one : KeptRow) (kept : List KeptRow) (raw : RawRow) (rows : List RawRow) → ascend (rows ++ raw ∷ []) ≡ true →
+        IsReadAs identity raw one → IsStore identity kept rows → IsStore identity (put_kept one kept) (rows ++ raw ∷ []) }
 {}
 
 /// A row that is told is read as a kept one, where its path is spelled so and its bytes are a row, with the daemon's identity if it has one.
