@@ -18,4 +18,5 @@ pub mod ImageMoves
 pub mod StoreLemmas
 pub mod StoreSteps
 pub mod StoreMoves
+pub mod StoreReads
 pub mod CountLemmas

@@ -1,8 +1,9 @@
 -- The rows of the state store beside the kept rows of a point, and the counts of faults beside a history.
-use Rattle.std.specs.Prelude.{◌≡◌, ◌≤◌, ◌&&◌, ◌⊎◌, ℕ, Bool, true, false, not, if◌then◌else◌, List, Option, Some, None}
+use Rattle.std.specs.Prelude.{◌≡◌, ◌≤◌, ◌&&◌, ◌⊎◌, ℕ, Bool, true, false, not, if◌then◌else◌, List, All, Option, Some, None}
 use Rattle.std.specs.List.{Contains, list_any}
 use Rattle.std.specs.Option.{is_some}
 use Rattle.mat_path.specs.Names.{is_path, joined, path_of, same_names}
+use Rattle.mat_tree.specs.Trees.{IsNode, IsTree}
 use Rattle.mat_model.specs.declared.answers.Device.TheVariants as device
 use Rattle.mat_model.specs.declared.answers.FaultNote.{FaultNote}
 use Rattle.mat_model.specs.declared.answers.Recorded.{Recorded}
@@ -101,6 +102,14 @@ pub record IsReadFrom (identity : ℕ) (rows : List RawRow) (kept : KeptRow) : T
   pub raw : RawRow
   pub among : Contains rows raw
   pub read : IsReadAs identity raw kept
+
+-- each kept row has a tree, whose nodes are what may stand in one
+pub record IsKeptTree (kept : KeptRow) : Type 0 where
+  pub whole : IsTree kept.tree
+  pub nodes : All IsNode kept.tree
+
+abbrev pub AreKeptTrees : List KeptRow → Type 0
+AreKeptTrees kept = (one : KeptRow) → Contains kept one → IsKeptTree one
 
 -- a row that was read from the bytes of one that is told, as a kept row at a path
 abbrev pub kept_read : List (List ℕ) → KeptTree → RawRow → KeptRow

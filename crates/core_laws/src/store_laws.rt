@@ -1,4 +1,4 @@
-ghost use Rattle.std.specs.Prelude.{◌≡◌, ℕ, Bool, List, [], ◌∷◌, ◌++◌, map, filter, true, false, not, Some, None, Option};
+ghost use Rattle.std.specs.Prelude.{◌≡◌, ◌<◌, ◌^◌, ℕ, Bool, List, [], ◌∷◌, ◌++◌, map, filter, true, false, not, Some, None, Option};
 ghost use Rattle.std.specs.List.{Contains, list_any};
 ghost use Rattle.std.specs.Option.{ForSome, option_map};
 ghost use Rattle.mat_path.specs.Names.{is_path, path_of, same_names};
@@ -27,7 +27,7 @@ ghost use Rattle.keep_port.specs.Rows.{ascend, put_all, remove_all, touch_all};
 ghost use Rattle.keep_port.specs.declared.row.RawRow.{RawRow};
 ghost use Rattle.row_bytes.specs.Rows.{IsRow};
 ghost use Rattle.row_bytes.specs.declared.row.KeptTree.{KeptTree};
-ghost use Rattle.core_laws.specs.Stored.{AreDropped, AreSplit, IsReadAmong, IsReadAs, IsReadFrom, IsStore, has_bytes, is_left, is_old, kept_read, leaves_kept, raw_of, touch_of, wants_bytes};
+ghost use Rattle.core_laws.specs.Stored.{AreDropped, AreKeptTrees, AreSplit, IsReadAmong, IsReadAs, IsReadFrom, IsStore, has_bytes, is_left, is_old, kept_read, leaves_kept, raw_of, touch_of, wants_bytes};
 
 /// The kept rows determine the rows of the state store: two that have them have the same rows, in one order.
 pub fn stores_are_alike()
@@ -99,6 +99,20 @@ pub fn next_row_is_stored()
     ensures none { (identity : ℕ) → IsStore identity [] [] }
     ensures next { (identity : ℕ) (one : KeptRow) (kept : List KeptRow) (raw : RawRow) (rows : List RawRow) → ascend (rows ++ raw ∷ []) ≡ true →
         IsReadAs identity raw one → IsStore identity kept rows → IsStore identity (put_kept one kept) (rows ++ raw ∷ []) }
+{}
+
+/// Where the state store has the kept rows, each of its rows is read as one of them, and each of them from one of its rows.
+pub fn stored_rows_are_read()
+    ensures told { (identity : ℕ) (kept : List KeptRow) (rows : List RawRow) (raw : RawRow) → identity < 2 ^ 64 → AreKeptTrees kept →
+        IsStore identity kept rows → Contains rows raw → IsReadAmong identity kept raw }
+    ensures kept { (identity : ℕ) (kept : List KeptRow) (rows : List RawRow) (one : KeptRow) → identity < 2 ^ 64 → AreKeptTrees kept →
+        IsStore identity kept rows → Contains kept one → IsReadFrom identity rows one }
+{}
+
+/// Its rows determine the kept rows, which ascend by path: no others are read from them.
+pub fn stored_rows_are_kept()
+    ensures { (identity : ℕ) (kept others : List KeptRow) (rows : List RawRow) → identity < 2 ^ 64 → KeptAscend kept → KeptAscend others →
+        AreKeptTrees kept → AreKeptTrees others → IsStore identity kept rows → IsStore identity others rows → kept ≡ others }
 {}
 
 /// A row that is told is read as a kept one, where its path is spelled so and its bytes are a row, with the daemon's identity if it has one.
