@@ -2,7 +2,6 @@
 use Rattle.std.proofs.Common.{ap₂, ◌≡◌, ℕ, ◌==◌, Bool, true, false, ◌&&◌, inl, inr, cond, List, [], ◌∷◌, Option, Some, None, refl, sym, ap, subst, ◌∙◌, map, find, Contains, arith}
 use Rattle.std.proofs.lemmas.Bool.{and_from, and_parts, eq-eqb}
 use Rattle.std.specs.List.{filter, list_any}
-use Rattle.mat_path.specs.Names.{is_path}
 use Rattle.mat_path.proofs.Elements.{contains_cases, contains_filter, contains_first, contains_map, filtered_contains}
 use Rattle.mat_path.proofs.SameNames.{same_names-eq, same_names-refl}
 use Rattle.mat_model.specs.declared.answers.FaultNote.{FaultNote}
@@ -36,7 +35,7 @@ use Rattle.model_laws.proofs.ApartLemmas.{history_apart}
 use Rattle.model_laws.proofs.RowCases.{either_served, event_served}
 use Rattle.keep_port.specs.Rows.{put_all, remove_all, touch_all}
 use Rattle.keep_port.specs.declared.row.RawRow.{RawRow}
-use Rattle.core_laws.specs.Stored.{AreDropped, AreSplit, IsStore, leaves_kept, raw_of, raw_row, touch_of}
+use Rattle.core_laws.specs.Stored.{AreDropped, AreSplit, IsReadable, IsStore, leaves_kept, raw_of, raw_row, touch_of}
 use Rattle.core_laws.proofs.StoreSteps.{apart_once, same_stored, store_flushed, store_put, store_removed, store_same}
 
 -- ---- kept rows that stay
@@ -149,13 +148,13 @@ flush_rows point moment said =
 pub flush_store : (identity : ℕ) (point : Point) (entry : Entry) (count : ℕ) (written changed : List Row) (rows : List RawRow) →
     are_apart point.book.rows ≡ true → IsStored point.book.rows point.work.jobs point.kept → entry.event ≡ event.Asked asked.Flush →
     (served_at point entry).reply ≡ reply.Flushed count → AreSplit point.kept (filter (is_due point.kept) point.book.rows) written changed →
-    ((row : Row) → Contains written row → is_path row.path ≡ true) → IsStore identity point.kept rows →
+    ((row : Row) → Contains written row → IsReadable (kept_row row)) → IsStore identity point.kept rows →
     IsStore identity (after point entry).kept (touch_all (put_all rows (map (raw_of identity) written)) (map touch_of changed))
-flush_store identity point entry count written changed rows apart stored is told split placed store =
+flush_store identity point entry count written changed rows apart stored is told split sound store =
     subst (λ (ks : List KeptRow). IsStore identity ks (touch_all (put_all rows (map (raw_of identity) written)) (map touch_of changed)))
     (sym (asked_kept point entry asked.Flush (reply.Flushed count) is told
     ∙ ap (λ (rs : List Row). store_rows (filter (is_due point.kept) rs) point.kept) same))
-    (store_flushed identity point.book.rows point.work.jobs point.kept written changed rows apart stored split placed store)
+    (store_flushed identity point.book.rows point.work.jobs point.kept written changed rows apart stored split sound store)
   where
     same : (served_at point entry).book.rows ≡ point.book.rows
     same =
@@ -179,9 +178,9 @@ recorded_kept point entry number out job path stamp is runs makes told =
 recorded_store : (identity : ℕ) (point : Point) (entry : Entry) (number : ℕ) (out : Outcome) (job : Job) (row : Row) (rows : List RawRow) →
     are_apart (after point entry).book.rows ≡ true → KeptAscend point.kept → entry.event ≡ event.Done number out → running number point.work ≡ Some job →
     job.task ≡ task.Make row.path row.stamp → (served_at point entry).reply ≡ reply.Fresh recorded.Kept → Contains (after point entry).book.rows row →
-    is_path row.path ≡ true → IsStore identity point.kept rows →
+    IsReadable (kept_row row) → IsStore identity point.kept rows →
     IsStore identity (after point entry).kept (put_all rows (raw_of identity row ∷ []))
-recorded_store identity point entry number out job row rows apart asc is runs makes told among placed store =
+recorded_store identity point entry number out job row rows apart asc is runs makes told among sound store =
     subst (λ (ks : List KeptRow). IsStore identity ks (put_all rows (raw_of identity row ∷ [])))
     (sym (recorded_kept point entry number out job row.path row.stamp is runs makes told))
     (store_same identity (store_rows (row ∷ []) point.kept) (store_rows made point.kept) (put_all rows (raw_of identity row ∷ []))
@@ -189,7 +188,7 @@ recorded_store identity point entry number out job row rows apart asc is runs ma
     (λ other within. subst (Contains made) (alone other within) there) (λ other within. subst (Contains (row ∷ [])) (only other within) (contains_first row [])))
     (λ one. same_stored made (row ∷ []) point.kept one asc (λ a b first second same. sym (alone a first) ∙ alone b second)
     (λ other within. subst (Contains (row ∷ [])) (only other within) (contains_first row [])) (λ other within. subst (Contains made) (alone other within) there))
-    (store_put identity (row ∷ []) point.kept rows asc (λ other within. subst (λ (r : Row). is_path r.path ≡ true) (alone other within) placed) store))
+    (store_put identity (row ∷ []) point.kept rows asc (λ other within. subst (λ (r : Row). IsReadable (kept_row r)) (alone other within) sound) store))
   where
     made : List Row
     made = filter (is_declared row.path row.stamp) (after point entry).book.rows
@@ -254,13 +253,13 @@ finish_there number path stamp out how row book among = by (find (is_declared pa
 pub done_store : (identity : ℕ) (point : Point) (entry : Entry) (number : ℕ) (out : Outcome) (job : Job) (row : Row) (rows : List RawRow) →
     are_apart point.book.rows ≡ true → KeptAscend point.kept → entry.event ≡ event.Done number out → running number point.work ≡ Some job →
     job.task ≡ task.Make row.path row.stamp → (served_at point entry).reply ≡ reply.Fresh recorded.Kept → Contains point.book.rows row →
-    is_path row.path ≡ true → IsStore identity point.kept rows →
+    IsReadable (kept_row row) → IsStore identity point.kept rows →
     IsStore identity (after point entry).kept (put_all rows (raw_of identity row ∷ []))
-done_store identity point entry number out job row rows apart asc is runs makes told among placed store =
+done_store identity point entry number out job row rows apart asc is runs makes told among sound store =
     subst (λ (k : KeptRow). IsStore identity (after point entry).kept (put_all rows (raw_row identity k ∷ []))) there.kept
     (recorded_store identity point entry number out job there.one rows (history_apart point (entry ∷ []) apart) asc is runs
     (makes ∙ ap₂ task.Make (sym there.path) (sym there.stamp)) told there.among
-    (subst (λ (p : List (List ℕ)). is_path p ≡ true) (sym there.path) placed) store)
+    (subst IsReadable (sym there.kept) sound) store)
   where
     there : IsThere (after point entry).book.rows row
     there =

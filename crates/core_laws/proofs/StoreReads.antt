@@ -17,43 +17,43 @@ use Rattle.keep_port.specs.declared.row.RawRow.{RawRow}
 use Rattle.row_bytes.specs.Rows.{IsRow}
 use Rattle.row_bytes.specs.declared.row.KeptTree.{KeptTree}
 use Rattle.row_bytes.proofs.RowBack.{one_row}
-use Rattle.core_laws.specs.Stored.{AreKeptTrees, IsKeptTree, IsReadAmong, IsReadAs, IsReadFrom, IsStore, identity_of, raw_row}
+use Rattle.core_laws.specs.Stored.{IsReadAmong, IsReadAs, IsReadFrom, IsReadable, IsStore, identity_of, raw_row}
 use Rattle.core_laws.proofs.StoreLemmas.{none_there, spelled_once}
 
 -- what the bytes of a kept row are a row of
 abbrev tree_of : ℕ → KeptRow → KeptTree
 tree_of identity one = record { tree = one.tree; identity = identity_of identity one }
 
-bytes_are : (identity : ℕ) (one : KeptRow) → identity < 2 ^ 64 → IsKeptTree one → IsRow (raw_row identity one).body (tree_of identity one)
+bytes_are : (identity : ℕ) (one : KeptRow) → identity < 2 ^ 64 → IsReadable one → IsRow (raw_row identity one).body (tree_of identity one)
 bytes_are identity one small tree = record { text = refl; tree = tree.whole; nodes = tree.nodes; identity = by one.new }
   where
     by : (b : Bool) → IfSome (cond b (Some identity) None) (λ (i : ℕ). i < 2 ^ 64)
     by true = small
     by false = tt
 
-read_one : (identity : ℕ) (kept : List KeptRow) (rows : List RawRow) (one : KeptRow) → identity < 2 ^ 64 → AreKeptTrees kept → IsStore identity kept rows →
+read_one : (identity : ℕ) (kept : List KeptRow) (rows : List RawRow) (one : KeptRow) → identity < 2 ^ 64 → IsStore identity kept rows →
     Contains kept one → IsReadAs identity (raw_row identity one) one
-read_one identity kept rows one small trees store among =
-    record { path = read_back one.path (store.paths one among); body = bytes_are identity one small (trees one among); last = refl }
+read_one identity kept rows one small store among =
+    record { path = read_back one.path (store.readable one among).placed; body = bytes_are identity one small (store.readable one among); last = refl }
 
 -- each row is read as a kept one, and each of these is read from a row
-pub stored_read : (identity : ℕ) (kept : List KeptRow) (rows : List RawRow) (raw : RawRow) → identity < 2 ^ 64 → AreKeptTrees kept →
+pub stored_read : (identity : ℕ) (kept : List KeptRow) (rows : List RawRow) (raw : RawRow) → identity < 2 ^ 64 →
     IsStore identity kept rows → Contains rows raw → IsReadAmong identity kept raw
-stored_read identity kept rows raw small trees store among =
+stored_read identity kept rows raw small store among =
     let of = store.others raw among in
     record {
       one = of.one;
       among = of.among;
-      read = subst (λ (r : RawRow). IsReadAs identity r of.one) (sym of.same) (read_one identity kept rows of.one small trees store of.among);
+      read = subst (λ (r : RawRow). IsReadAs identity r of.one) (sym of.same) (read_one identity kept rows of.one small store of.among);
     }
 
-pub read_stored : (identity : ℕ) (kept : List KeptRow) (rows : List RawRow) (one : KeptRow) → identity < 2 ^ 64 → AreKeptTrees kept →
+pub read_stored : (identity : ℕ) (kept : List KeptRow) (rows : List RawRow) (one : KeptRow) → identity < 2 ^ 64 →
     IsStore identity kept rows → Contains kept one → IsReadFrom identity rows one
-read_stored identity kept rows one small trees store among =
-    record { raw = raw_row identity one; among = store.each one among; read = read_one identity kept rows one small trees store among }
+read_stored identity kept rows one small store among =
+    record { raw = raw_row identity one; among = store.each one among; read = read_one identity kept rows one small store among }
 
 -- two kept rows at paths that the state store has as one row are one
-same_row : (identity : ℕ) (one other : KeptRow) → identity < 2 ^ 64 → IsKeptTree one → IsKeptTree other → one.path ≡ other.path →
+same_row : (identity : ℕ) (one other : KeptRow) → identity < 2 ^ 64 → IsReadable one → IsReadable other → one.path ≡ other.path →
     raw_row identity one ≡ raw_row identity other → one ≡ other
 same_row identity one other small tree its path same =
     ap₂ (λ (p : List (List ℕ)) (t : List Flat). kept_of p t one.last one.new) path (ap (λ (r : KeptTree). r.tree) both)
@@ -115,14 +115,14 @@ same_kept (row ∷ kept) (other ∷ others) up over to from =
 
 -- a state store has the rows of one list of kept rows in order
 pub kept_alike : (identity : ℕ) (kept others : List KeptRow) (rows : List RawRow) → identity < 2 ^ 64 → KeptAscend kept → KeptAscend others →
-    AreKeptTrees kept → AreKeptTrees others → IsStore identity kept rows → IsStore identity others rows → kept ≡ others
-kept_alike identity kept others rows small up over trees theirs store other =
+    IsStore identity kept rows → IsStore identity others rows → kept ≡ others
+kept_alike identity kept others rows small up over store other =
     same_kept kept others up over
     (λ one among.
     let of = other.others (raw_row identity one) (store.each one among) in
-    subst (Contains others) (sym (same_row identity one of.one small (trees one among) (theirs of.one of.among)
-    (spelled_once one.path of.one.path (store.paths one among) (other.paths of.one of.among) (ap (λ (r : RawRow). r.path) of.same)) of.same)) of.among)
+    subst (Contains others) (sym (same_row identity one of.one small (store.readable one among) (other.readable of.one of.among)
+    (spelled_once one.path of.one.path (store.readable one among).placed (other.readable of.one of.among).placed (ap (λ (r : RawRow). r.path) of.same)) of.same)) of.among)
     (λ one among.
     let of = store.others (raw_row identity one) (other.each one among) in
-    subst (Contains kept) (sym (same_row identity one of.one small (theirs one among) (trees of.one of.among)
-    (spelled_once one.path of.one.path (other.paths one among) (store.paths of.one of.among) (ap (λ (r : RawRow). r.path) of.same)) of.same)) of.among)
+    subst (Contains kept) (sym (same_row identity one of.one small (other.readable one among) (store.readable of.one of.among)
+    (spelled_once one.path of.one.path (other.readable one among).placed (store.readable of.one of.among).placed (ap (λ (r : RawRow). r.path) of.same)) of.same)) of.among)

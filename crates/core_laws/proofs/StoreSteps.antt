@@ -1,5 +1,5 @@
 -- What calls of the state store make of its rows beside kept rows: removals, puts, and new last uses.
-use Rattle.std.proofs.Common.{◌≡◌, ◌≢◌, ℕ, ◌+◌, Bool, true, false, not, ◌||◌, ◌⊎◌, inl, inr, cond, List, [], ◌∷◌, ◌++◌, Option, Some, None, refl, sym, ap, ap₂, subst, ◌∙◌, map, Contains}
+use Rattle.std.proofs.Common.{◌≡◌, ◌≢◌, ℕ, ◌+◌, Bool, true, false, not, ◌||◌, ◌⊎◌, inl, inr, cond, List, [], ◌∷◌, ◌++◌, Option, Some, None, refl, sym, ap, ap₂, subst, ◌∙◌, map, All, Contains}
 use Rattle.std.proofs.lemmas.Bool.{and_parts, both_ways, false_from_ne_true, not-true}
 use Rattle.std.proofs.lemmas.List.Elements.{Contains-append_cases, Contains-append_left, Contains-append_right}
 use Rattle.std.specs.List.{filter, list_any}
@@ -8,6 +8,7 @@ use Rattle.mat_path.specs.Names.{is_path, joined, overlap, path_of, same_name, s
 use Rattle.mat_path.proofs.Elements.{contains_cases, contains_filter, contains_first, contains_map, contains_more, each_fails, filtered_contains, mapped_contains, none_passes}
 use Rattle.mat_path.proofs.Overlaps.{overlap-refl}
 use Rattle.mat_path.proofs.SameNames.{same_name-eq, same_name-refl, same_names-eq, same_names-refl, same_names_false}
+use Rattle.mat_tree.specs.Trees.{IsNode, IsTree}
 use Rattle.mat_tree.specs.declared.flat.Flat.{Flat}
 use Rattle.mat_model.specs.declared.book.Row.{Row}
 use Rattle.mat_model.specs.Kept.{KeptRow, is_due, is_kept_of, is_listed, is_stored_as, kept_row, put_kept, store_rows}
@@ -27,7 +28,7 @@ use Rattle.keep_port.specs.declared.row.RawRow.{RawRow}
 use Rattle.keep_port.proofs.Ordered.{ascend_put, ascend_removed, ascend_stored}
 use Rattle.row_bytes.specs.Rows.{IsRow, row_bytes}
 use Rattle.row_bytes.specs.declared.row.KeptTree.{KeptTree}
-use Rattle.core_laws.specs.Stored.{AreDropped, AreSplit, IsOneOf, IsReadAmong, IsReadAs, IsReadFrom, IsStore, has_bytes, identity_of, is_left, is_new_at, is_old, kept_read, raw_of, raw_row, touch_of, wants_bytes}
+use Rattle.core_laws.specs.Stored.{AreDropped, AreSplit, IsOneOf, IsReadAmong, IsReadAs, IsReadFrom, IsReadable, IsStore, has_bytes, identity_of, is_left, is_new_at, is_old, kept_read, raw_of, raw_row, touch_of, wants_bytes}
 use Rattle.core_laws.proofs.StoreLemmas.{AreOfPaths, IsStoredBy, in_stored, kept_from, kept_once, kept_put, kept_stays, listed_named, last_differs, none_there, other_text, put_among, put_from, raw_put, raw_stays, removed_from, removed_stays, same_raws, spelled, spelled_once}
 
 -- ---- members alone
@@ -45,7 +46,7 @@ store_same identity kept left rows to from store = record {
   order = store.order;
   each = λ one among. store.each one (from one among);
   others = λ raw among. let of = store.others raw among in record { one = of.one; among = to of.one of.among; same = of.same };
-  paths = λ one among. store.paths one (from one among);
+  readable = λ one among. store.readable one (from one among);
 }
 
 -- ---- removals
@@ -58,7 +59,7 @@ store_removed identity drops kept rows paths dropped store = record {
       let (was, left) = filtered_contains (is_left drops) kept one among in
       removed_stays rows paths (raw_row identity one)
       (λ path named same.
-      let is : one.path ≡ path = spelled_once one.path path (store.paths one was) (dropped.placed path named) same in
+      let is : one.path ≡ path = spelled_once one.path path (store.readable one was).placed (dropped.placed path named) same in
       both_ways (drops one) (not-true (drops one) left)
       (sym (dropped.exact one was)
       ∙ contains_any (same_names one.path) paths path named (subst (λ (p : List (List ℕ)). same_names one.path p ≡ true) is (same_names-refl one.path))))
@@ -70,7 +71,7 @@ store_removed identity drops kept rows paths dropped store = record {
         among = contains_filter (is_left drops) kept of.one (ap not (stays of.one raw was of.among of.same apart)) of.among;
         same = of.same;
       };
-  paths = λ one among. store.paths one (filtered_contains (is_left drops) kept one among).0;
+  readable = λ one among. store.readable one (filtered_contains (is_left drops) kept one among).0;
 }
   where
     stays : (one : KeptRow) (raw : RawRow) → Contains rows raw → Contains kept one → raw ≡ raw_row identity one →
@@ -89,7 +90,7 @@ listed_dropped identity drops kept rows asc store = record {
   exact = λ one among. listed_named drops kept one asc among;
   placed = λ path named.
       let (one, within, same) = mapped_contains path_of_kept (filter drops kept) path named in
-      subst (λ (p : List (List ℕ)). is_path p ≡ true) same (store.paths one (filtered_contains drops kept one within).0);
+      subst (λ (p : List (List ℕ)). is_path p ≡ true) same (store.readable one (filtered_contains drops kept one within).0).placed;
 }
 
 pub none_dropped : (drops : KeptRow → Bool) (kept : List KeptRow) → list_any drops kept ≡ false → AreDropped drops kept []
@@ -116,15 +117,15 @@ told_change identity kept left change (Some old) changes store =
 -- ---- puts
 
 -- a row is put in the place of the one at its path
-put_one : (identity : ℕ) (row : Row) (kept : List KeptRow) (rows : List RawRow) → KeptAscend kept → is_path row.path ≡ true → IsStore identity kept rows →
+put_one : (identity : ℕ) (row : Row) (kept : List KeptRow) (rows : List RawRow) → KeptAscend kept → IsReadable (kept_row row) → IsStore identity kept rows →
     IsStore identity (put_kept (kept_row row) kept) (put rows (raw_of identity row))
-put_one identity row kept rows asc placed store = record {
+put_one identity row kept rows asc sound store = record {
   order = ascend_put rows (raw_of identity row) store.order;
   each = λ one among. elim (cases one among) [
     | inl same ↦ subst (λ (k : KeptRow). Contains (put rows (raw_of identity row)) (raw_row identity k)) same (raw_put rows (raw_of identity row))
     | inr (was, differs) ↦
         raw_stays rows (raw_of identity row) (raw_row identity one)
-        (other_text one.path row.path (store.paths one was) placed (λ same. differs (sym same))) (store.each one was)
+        (other_text one.path row.path (store.readable one was).placed sound.placed (λ same. differs (sym same))) (store.each one was)
   ];
   others = λ raw among. elim (put_from rows (raw_of identity row) raw among) [
     | inl same ↦ record { one = kept_row row; among = kept_put (kept_row row) kept; same = sym same }
@@ -135,9 +136,9 @@ put_one identity row kept rows asc placed store = record {
           same = of.same;
         }
   ];
-  paths = λ one among. elim (cases one among) [
-    | inl same ↦ subst (λ (k : KeptRow). is_path k.path ≡ true) same placed
-    | inr (was, differs) ↦ store.paths one was
+  readable = λ one among. elim (cases one among) [
+    | inl same ↦ subst IsReadable same sound
+    | inr (was, differs) ↦ store.readable one was
   ];
 }
   where
@@ -145,13 +146,13 @@ put_one identity row kept rows asc placed store = record {
     cases one among = kept_from row kept one asc among
 
 pub store_put : (identity : ℕ) (some : List Row) (kept : List KeptRow) (rows : List RawRow) → KeptAscend kept →
-    ((row : Row) → Contains some row → is_path row.path ≡ true) → IsStore identity kept rows →
+    ((row : Row) → Contains some row → IsReadable (kept_row row)) → IsStore identity kept rows →
     IsStore identity (store_rows some kept) (put_all rows (map (raw_of identity) some))
-store_put identity [] kept rows asc placed store = store
-store_put identity (row ∷ some) kept rows asc placed store =
+store_put identity [] kept rows asc sound store = store
+store_put identity (row ∷ some) kept rows asc sound store =
     store_put identity some (put_kept (kept_row row) kept) (put rows (raw_of identity row)) (store_ascends (row ∷ []) kept asc)
-    (λ other within. placed other (contains_more row some other within))
-    (put_one identity row kept rows asc (placed row (contains_first row some)) store)
+    (λ other within. sound other (contains_more row some other within))
+    (put_one identity row kept rows asc (sound row (contains_first row some)) store)
 
 -- ---- new last uses
 
@@ -215,21 +216,21 @@ touch_one identity row kept rows asc has store = record {
     | inr (was, differs) ↦
         subst (λ (raw : RawRow). Contains (map (touched (joined row.path) row.last) rows) raw)
         (touched_elsewhere (joined row.path) row.last (raw_row identity one)
-        (other_text one.path row.path (store.paths one was) placed (λ same. differs (sym same))))
+        (other_text one.path row.path (store.readable one was).placed placed (λ same. differs (sym same))))
         (contains_map (touched (joined row.path) row.last) rows (raw_row identity one) (store.each one was))
   ];
   others = λ raw among.
       let (was, within, same) = mapped_contains (touched (joined row.path) row.last) rows raw among in
       let of = store.others was within in
       from raw of.one of.among (ap (touched (joined row.path) row.last) (sym of.same) ∙ same) (same_names of.one.path row.path) refl;
-  paths = λ one among. elim (kept_from row kept one asc among) [
-    | inl same ↦ subst (λ (k : KeptRow). is_path k.path ≡ true) same placed
-    | inr (was, differs) ↦ store.paths one was
+  readable = λ one among. elim (kept_from row kept one asc among) [
+    | inl same ↦ subst IsReadable same sound
+    | inr (was, differs) ↦ store.readable one was
   ];
 }
   where
     placed : is_path row.path ≡ true
-    placed = subst (λ (p : List (List ℕ)). is_path p ≡ true) has.path (store.paths has.old has.among)
+    placed = subst (λ (p : List (List ℕ)). is_path p ≡ true) has.path (store.readable has.old has.among).placed
 
     raw_at : List (List ℕ) → List Flat → Bool → RawRow
     raw_at path tree new = record { path = joined path; body = row_bytes (cond new (Some identity) None) tree; last = row.last }
@@ -238,6 +239,14 @@ touch_one identity row kept rows asc has store = record {
         raw_at path tree new ≡ raw_of identity row
     like path tree new here has_tree is_new =
         ap₂ (λ (p : List (List ℕ)) (t : List Flat). raw_at p t new) here has_tree ∙ ap (raw_at row.path row.tree) is_new
+
+    sound : IsReadable (kept_row row)
+    sound =
+        let was = store.readable has.old has.among in record {
+          placed = placed;
+          whole = subst IsTree has.tree was.whole;
+          nodes = subst (All IsNode) has.tree was.nodes;
+        }
 
     becomes : touched (joined row.path) row.last (raw_row identity has.old) ≡ raw_of identity row
     becomes =
@@ -256,7 +265,7 @@ touch_one identity row kept rows asc has store = record {
         let differs : one.path ≢ row.path = same_names_false one.path row.path other in record {
           one = one;
           among = kept_stays (kept_row row) kept one (λ same. differs (sym same)) among;
-          same = sym is ∙ touched_elsewhere (joined row.path) row.last (raw_row identity one) (other_text one.path row.path (store.paths one among) placed differs);
+          same = sym is ∙ touched_elsewhere (joined row.path) row.last (raw_row identity one) (other_text one.path row.path (store.readable one among).placed placed differs);
         }
 
 pub store_touched : (identity : ℕ) (some : List Row) (kept : List KeptRow) (rows : List RawRow) → KeptAscend kept → AreOfPaths some →
@@ -291,14 +300,14 @@ apart_once rows row other apart among also same =
 -- the rows that are due are stored: the bytes of some are put, and others get their last use
 pub store_flushed : (identity : ℕ) (rows : List Row) (jobs : List Job) (kept : List KeptRow) (written changed : List Row) (old : List RawRow) →
     are_apart rows ≡ true → IsStored rows jobs kept → AreSplit kept (filter (is_due kept) rows) written changed →
-    ((row : Row) → Contains written row → is_path row.path ≡ true) → IsStore identity kept old →
+    ((row : Row) → Contains written row → IsReadable (kept_row row)) → IsStore identity kept old →
     IsStore identity (store_rows (filter (is_due kept) rows) kept) (touch_all (put_all old (map (raw_of identity) written)) (map touch_of changed))
-store_flushed identity rows jobs kept written changed old apart stored split placed store =
+store_flushed identity rows jobs kept written changed old apart stored split sound store =
     store_same identity (store_rows changed middle) (store_rows due kept) (touch_all (put_all old (map (raw_of identity) written)) (map touch_of changed)) to from
     (store_touched identity changed middle (put_all old (map (raw_of identity) written)) up
     (λ row other first second. once row other (split.touches row first) (split.touches other second))
     (λ row within. bytes_stay_all written row kept (λ other first same. once other row (split.puts other first) (split.touches row within) same) (has row within))
-    (store_put identity written kept old stored.order placed store))
+    (store_put identity written kept old stored.order sound store))
   where
     due : List Row
     due = filter (is_due kept) rows
@@ -392,6 +401,9 @@ raw_is identity raw one read =
     with_last : List ℕ → List ℕ → ℕ → RawRow
     with_last path body last = record { path = path; body = body; last = last }
 
+can_be_read : (identity : ℕ) (raw : RawRow) (one : KeptRow) → IsReadAs identity raw one → IsReadable one
+can_be_read identity raw one read = record { placed = (spelled raw.path one.path read.path).1; whole = read.body.tree; nodes = read.body.nodes }
+
 pub store_told : (identity : ℕ) (kept : List KeptRow) (rows : List RawRow) → ascend rows ≡ true →
     ((raw : RawRow) → Contains rows raw → IsReadAmong identity kept raw) → ((one : KeptRow) → Contains kept one → IsReadFrom identity rows one) →
     IsStore identity kept rows
@@ -399,7 +411,7 @@ store_told identity kept rows up read from = record {
   order = up;
   each = λ one among. let of = from one among in subst (Contains rows) (raw_is identity of.raw one of.read) of.among;
   others = λ raw among. let of = read raw among in record { one = of.one; among = of.among; same = raw_is identity raw of.one of.read };
-  paths = λ one among. let of = from one among in (spelled of.raw.path one.path of.read.path).1;
+  readable = λ one among. let of = from one among in can_be_read identity of.raw one of.read;
 }
 
 pub store_none : (identity : ℕ) → IsStore identity [] []
@@ -407,7 +419,7 @@ store_none identity = record {
   order = refl;
   each = λ one among. absurd (none_there among);
   others = λ raw among. absurd (none_there among);
-  paths = λ one among. absurd (none_there among);
+  readable = λ one among. absurd (none_there among);
 }
 
 -- one row more is told, and is put into its place
@@ -437,9 +449,9 @@ store_next identity one kept raw rows up read store = record {
       | inr none ↦ absurd (none_there none)
     ]
   ];
-  paths = λ k among. elim (put_among one kept k among) [
-    | inl same ↦ subst (λ (r : KeptRow). is_path r.path ≡ true) same (spelled raw.path one.path read.path).1
-    | inr was ↦ store.paths k was
+  readable = λ k among. elim (put_among one kept k among) [
+    | inl same ↦ subst IsReadable same (can_be_read identity raw one read)
+    | inr was ↦ store.readable k was
   ];
 }
   where
@@ -498,5 +510,5 @@ opening_store identity opening kept rows is ours names store =
       exact = λ one among. refl;
       placed = λ path named.
           let (one, among, same) = mapped_contains path_of_kept kept path (ours path named) in
-          subst (λ (p : List (List ℕ)). is_path p ≡ true) same (store.paths one among);
+          subst (λ (p : List (List ℕ)). is_path p ≡ true) same (store.readable one among).placed;
     }) store)

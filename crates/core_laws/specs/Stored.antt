@@ -36,13 +36,19 @@ pub record IsOneOf (identity : ℕ) (kept : List KeptRow) (raw : RawRow) : Type 
   pub among : Contains kept one
   pub same : raw ≡ raw_row identity one
 
+-- a kept row can be read back from the text of its path and from its bytes: it is at a path, and has a tree, whose nodes are what may stand in one
+pub record IsReadable (kept : KeptRow) : Type 0 where
+  pub placed : is_path kept.path ≡ true
+  pub whole : IsTree kept.tree
+  pub nodes : All IsNode kept.tree
+
 -- the state store has the kept rows, in order of the bytes of their paths, and no others
 pub record IsStore (identity : ℕ) (kept : List KeptRow) (rows : List RawRow) : Type 0 where
   pub order : ascend rows ≡ true
   pub each : (one : KeptRow) → Contains kept one → Contains rows (raw_row identity one)
   pub others : (raw : RawRow) → Contains rows raw → IsOneOf identity kept raw
-  -- each of them is at a path, so that no other one has the text of its path
-  pub paths : (one : KeptRow) → Contains kept one → is_path one.path ≡ true
+  -- each of them can be read back, so that no other one has the text of its path
+  pub readable : (one : KeptRow) → Contains kept one → IsReadable one
 
 -- ---- rows that are removed
 
@@ -102,14 +108,6 @@ pub record IsReadFrom (identity : ℕ) (rows : List RawRow) (kept : KeptRow) : T
   pub raw : RawRow
   pub among : Contains rows raw
   pub read : IsReadAs identity raw kept
-
--- each kept row has a tree, whose nodes are what may stand in one
-pub record IsKeptTree (kept : KeptRow) : Type 0 where
-  pub whole : IsTree kept.tree
-  pub nodes : All IsNode kept.tree
-
-abbrev pub AreKeptTrees : List KeptRow → Type 0
-AreKeptTrees kept = (one : KeptRow) → Contains kept one → IsKeptTree one
 
 -- a row that was read from the bytes of one that is told, as a kept row at a path
 abbrev pub kept_read : List (List ℕ) → KeptTree → RawRow → KeptRow

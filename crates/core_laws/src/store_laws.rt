@@ -1,7 +1,7 @@
 ghost use Rattle.std.specs.Prelude.{◌≡◌, ◌<◌, ◌^◌, ℕ, Bool, List, [], ◌∷◌, ◌++◌, map, filter, true, false, not, Some, None, Option};
 ghost use Rattle.std.specs.List.{Contains, list_any};
 ghost use Rattle.std.specs.Option.{ForSome, option_map};
-ghost use Rattle.mat_path.specs.Names.{is_path, path_of, same_names};
+ghost use Rattle.mat_path.specs.Names.{path_of, same_names};
 ghost use Rattle.mat_model.specs.declared.answers.Gone.{Gone};
 ghost use Rattle.mat_model.specs.declared.answers.Recorded.TheVariants as recorded;
 ghost use Rattle.mat_model.specs.declared.answers.Reply.TheVariants as reply;
@@ -16,7 +16,7 @@ ghost use Rattle.mat_model.specs.declared.requests.Asked.TheVariants as asked;
 ghost use Rattle.mat_model.specs.declared.requests.CleanMode.{CleanMode};
 ghost use Rattle.mat_model.specs.Cleaning.{gone_row};
 ghost use Rattle.mat_model.specs.History.{Point, after, opened, refusal_note};
-ghost use Rattle.mat_model.specs.Kept.{KeptRow, is_due, is_kept_of, is_listed, overlaps_kept, put_kept, store_rows};
+ghost use Rattle.mat_model.specs.Kept.{KeptRow, is_due, is_kept_of, is_listed, kept_row, overlaps_kept, put_kept, store_rows};
 ghost use Rattle.mat_model.specs.Openings.{is_found, opening_rows};
 ghost use Rattle.mat_model.specs.Rows.{are_apart};
 ghost use Rattle.mat_model.specs.WorkState.{Job, path_of_task, running};
@@ -27,7 +27,7 @@ ghost use Rattle.keep_port.specs.Rows.{ascend, put_all, remove_all, touch_all};
 ghost use Rattle.keep_port.specs.declared.row.RawRow.{RawRow};
 ghost use Rattle.row_bytes.specs.Rows.{IsRow};
 ghost use Rattle.row_bytes.specs.declared.row.KeptTree.{KeptTree};
-ghost use Rattle.core_laws.specs.Stored.{AreDropped, AreKeptTrees, AreSplit, IsReadAmong, IsReadAs, IsReadFrom, IsStore, has_bytes, is_left, is_old, kept_read, leaves_kept, raw_of, touch_of, wants_bytes};
+ghost use Rattle.core_laws.specs.Stored.{AreDropped, AreSplit, IsReadAmong, IsReadAs, IsReadFrom, IsReadable, IsStore, has_bytes, is_left, is_old, kept_read, leaves_kept, raw_of, touch_of, wants_bytes};
 
 /// The kept rows determine the rows of the state store: two that have them have the same rows, in one order.
 pub fn stores_are_alike()
@@ -69,7 +69,7 @@ pub fn removal_leaves_store()
 /// Once rows are put, it has these among the kept ones, each in the place of the one at its path.
 pub fn puts_leave_store()
     ensures { (identity : ℕ) (some : List Row) (kept : List KeptRow) (rows : List RawRow) → KeptAscend kept →
-        ((row : Row) → Contains some row → is_path row.path ≡ true) → IsStore identity kept rows →
+        ((row : Row) → Contains some row → IsReadable (kept_row row)) → IsStore identity kept rows →
         IsStore identity (store_rows some kept) (put_all rows (map (raw_of identity) some)) }
 {}
 
@@ -77,7 +77,7 @@ pub fn puts_leave_store()
 pub fn due_rows_are_stored()
     ensures { (identity : ℕ) (rows : List Row) (jobs : List Job) (kept : List KeptRow) (written changed : List Row) (old : List RawRow) →
         are_apart rows ≡ true → IsStored rows jobs kept → AreSplit kept (filter (is_due kept) rows) written changed →
-        ((row : Row) → Contains written row → is_path row.path ≡ true) → IsStore identity kept old →
+        ((row : Row) → Contains written row → IsReadable (kept_row row)) → IsStore identity kept old →
         IsStore identity (store_rows (filter (is_due kept) rows) kept)
         (touch_all (put_all old (map (raw_of identity) written)) (map touch_of changed)) }
 {}
@@ -103,16 +103,16 @@ pub fn next_row_is_stored()
 
 /// Where the state store has the kept rows, each of its rows is read as one of them, and each of them from one of its rows.
 pub fn stored_rows_are_read()
-    ensures told { (identity : ℕ) (kept : List KeptRow) (rows : List RawRow) (raw : RawRow) → identity < 2 ^ 64 → AreKeptTrees kept →
+    ensures told { (identity : ℕ) (kept : List KeptRow) (rows : List RawRow) (raw : RawRow) → identity < 2 ^ 64 →
         IsStore identity kept rows → Contains rows raw → IsReadAmong identity kept raw }
-    ensures kept { (identity : ℕ) (kept : List KeptRow) (rows : List RawRow) (one : KeptRow) → identity < 2 ^ 64 → AreKeptTrees kept →
+    ensures kept { (identity : ℕ) (kept : List KeptRow) (rows : List RawRow) (one : KeptRow) → identity < 2 ^ 64 →
         IsStore identity kept rows → Contains kept one → IsReadFrom identity rows one }
 {}
 
 /// Its rows determine the kept rows, which ascend by path: no others are read from them.
 pub fn stored_rows_are_kept()
     ensures { (identity : ℕ) (kept others : List KeptRow) (rows : List RawRow) → identity < 2 ^ 64 → KeptAscend kept → KeptAscend others →
-        AreKeptTrees kept → AreKeptTrees others → IsStore identity kept rows → IsStore identity others rows → kept ≡ others }
+        IsStore identity kept rows → IsStore identity others rows → kept ≡ others }
 {}
 
 /// A row that is told is read as a kept one, where its path is spelled so and its bytes are a row, with the daemon's identity if it has one.
@@ -180,7 +180,7 @@ pub fn recorded_end_leaves_store()
     ensures { (identity : ℕ) (point : Point) (entry : Entry) (number : ℕ) (out : Outcome) (job : Job) (row : Row) (rows : List RawRow) →
         are_apart point.book.rows ≡ true → KeptAscend point.kept → entry.event ≡ event.Done number out →
         running number point.work ≡ Some job → job.task ≡ task.Make row.path row.stamp →
-        (served_at point entry).reply ≡ reply.Fresh recorded.Kept → Contains point.book.rows row → is_path row.path ≡ true →
+        (served_at point entry).reply ≡ reply.Fresh recorded.Kept → Contains point.book.rows row → IsReadable (kept_row row) →
         IsStore identity point.kept rows → IsStore identity (after point entry).kept (put_all rows (raw_of identity row ∷ [])) }
 {}
 
@@ -190,6 +190,6 @@ pub fn flush_leaves_store()
         are_apart point.book.rows ≡ true → IsStored point.book.rows point.work.jobs point.kept → entry.event ≡ event.Asked asked.Flush →
         (served_at point entry).reply ≡ reply.Flushed count →
         AreSplit point.kept (filter (is_due point.kept) point.book.rows) written changed →
-        ((row : Row) → Contains written row → is_path row.path ≡ true) → IsStore identity point.kept rows →
+        ((row : Row) → Contains written row → IsReadable (kept_row row)) → IsStore identity point.kept rows →
         IsStore identity (after point entry).kept (touch_all (put_all rows (map (raw_of identity) written)) (map touch_of changed)) }
 {}
