@@ -175,6 +175,12 @@ removed_stays rows (gone ∷ paths) raw apart among =
 
 -- ---- kept rows
 
+-- a kept row that comes before another one is at another path
+pub before_differs : (a b : KeptRow) → comes_before a.path b.path ≡ true → a.path ≢ b.path
+before_differs a b before is =
+    both_ways (comes_before a.path a.path) (ap is_lt (path_cmp-refl a.path))
+    (subst (λ (p : List (List ℕ)). comes_before a.path p ≡ true) (sym is) before)
+
 -- of kept rows that ascend none is at the path of another one
 pub kept_once : (kept : List KeptRow) (one other : KeptRow) → KeptAscend kept → Contains kept one → Contains kept other → one.path ≡ other.path → one ≡ other
 kept_once [] one other asc among also same = absurd (none_there among)
@@ -183,20 +189,15 @@ kept_once (first ∷ kept) one other asc among also same =
     elim (contains_cases first kept one among) [
       | inl here ↦ elim (contains_cases first kept other also) [
         | inl there ↦ sym here ∙ there
-        | inr more ↦ absurd (after_differs first other (contains_all (is_after_by path_of_kept first.path) kept other parts.0 more)
+        | inr more ↦ absurd (before_differs first other (contains_all (is_after_by path_of_kept first.path) kept other parts.0 more)
             (ap (λ (k : KeptRow). k.path) here ∙ same))
       ]
       | inr rest ↦ elim (contains_cases first kept other also) [
-        | inl there ↦ absurd (after_differs first one (contains_all (is_after_by path_of_kept first.path) kept one parts.0 rest)
+        | inl there ↦ absurd (before_differs first one (contains_all (is_after_by path_of_kept first.path) kept one parts.0 rest)
             (ap (λ (k : KeptRow). k.path) there ∙ sym same))
         | inr more ↦ kept_once kept one other parts.1 rest more same
       ]
     ]
-  where
-    after_differs : (a b : KeptRow) → comes_before a.path b.path ≡ true → a.path ≢ b.path
-    after_differs a b before is =
-        both_ways (comes_before a.path a.path) (ap is_lt (path_cmp-refl a.path))
-        (subst (λ (p : List (List ℕ)). comes_before a.path p ≡ true) (sym is) before)
 
 pub kept_put : (new : KeptRow) (kept : List KeptRow) → Contains (put_kept new kept) new
 kept_put new [] = contains_first new []

@@ -1,10 +1,8 @@
 -- What the rows of a state store are read as: the kept rows that it has, and no others.
 use Rattle.std.proofs.Common.{◌≡◌, ◌≢◌, ◌<◌, ◌^◌, ℕ, Bool, true, false, ◌⊎◌, inl, inr, cond, List, [], ◌∷◌, Some, None, IfSome, refl, sym, ap, ap₂, subst, ◌∙◌, Contains}
-use Rattle.std.proofs.lemmas.Bool.{and_parts, both_ways}
+use Rattle.std.proofs.lemmas.Bool.{and_parts}
 use Rattle.std.specs.List.{list_all}
-use Rattle.std.specs.Ordering.{is_lt}
 use Rattle.mat_path.proofs.Elements.{contains_cases, contains_first, contains_more}
-use Rattle.mat_path.proofs.PathLemmas.{path_cmp-refl}
 use Rattle.mat_path.proofs.ReadLemmas.{read_back}
 use Rattle.mat_tree.specs.declared.flat.Flat.{Flat}
 use Rattle.mat_tree.specs.Trees.{ascends_by, is_after_by}
@@ -18,7 +16,7 @@ use Rattle.row_bytes.specs.Rows.{IsRow}
 use Rattle.row_bytes.specs.declared.row.KeptTree.{KeptTree}
 use Rattle.row_bytes.proofs.RowBack.{one_row}
 use Rattle.core_laws.specs.Stored.{IsReadAmong, IsReadAs, IsReadFrom, IsReadable, IsStore, identity_of, raw_row}
-use Rattle.core_laws.proofs.StoreLemmas.{none_there, spelled_once}
+use Rattle.core_laws.proofs.StoreLemmas.{before_differs, none_there, spelled_once}
 
 -- what the bytes of a kept row are a row of
 abbrev tree_of : ℕ → KeptRow → KeptTree
@@ -77,12 +75,7 @@ same_row identity one other small tree its path same =
 -- ---- kept rows in order
 
 not_before_itself : (a b : KeptRow) → comes_before a.path b.path ≡ true → comes_before b.path a.path ≡ true → ⊥
-not_before_itself a b first second =
-    both_ways (comes_before a.path a.path) (ap is_lt (path_cmp-refl a.path)) (before-trans a.path b.path a.path first second)
-
-before_differs : (a b : KeptRow) → comes_before a.path b.path ≡ true → a ≢ b
-before_differs a b before same =
-    both_ways (comes_before a.path a.path) (ap is_lt (path_cmp-refl a.path)) (subst (λ (k : KeptRow). comes_before a.path k.path ≡ true) (sym same) before)
+not_before_itself a b first second = before_differs a a (before-trans a.path b.path a.path first second) refl
 
 -- kept rows in order are the same where the same ones are among them
 same_kept : (kept others : List KeptRow) → KeptAscend kept → KeptAscend others → ((one : KeptRow) → Contains kept one → Contains others one) →
@@ -97,9 +90,9 @@ same_kept (row ∷ kept) (other ∷ others) up over to from =
     ap₂ (λ (k : KeptRow) (ks : List KeptRow). k ∷ ks) head
     (same_kept kept others ups.1 overs.1
     (λ one among. rest other others one (to one (contains_more row kept one among))
-    (λ same. before_differs row one (contains_all (is_after_by path_of_kept row.path) kept one ups.0 among) (head ∙ same)))
+    (λ same. before_differs row one (contains_all (is_after_by path_of_kept row.path) kept one ups.0 among) (ap (λ (k : KeptRow). k.path) (head ∙ same))))
     (λ one among. rest row kept one (from one (contains_more other others one among))
-    (λ same. before_differs other one (contains_all (is_after_by path_of_kept other.path) others one overs.0 among) (sym head ∙ same))))
+    (λ same. before_differs other one (contains_all (is_after_by path_of_kept other.path) others one overs.0 among) (ap (λ (k : KeptRow). k.path) (sym head ∙ same)))))
   where
     first : list_all (is_after_by path_of_kept row.path) kept ≡ true → list_all (is_after_by path_of_kept other.path) others ≡ true →
         (other ≡ row) ⊎ Contains others row → row ≡ other
