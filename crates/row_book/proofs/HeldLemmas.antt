@@ -8,10 +8,12 @@ use Rattle.std.specs.List.{filter, list_all, list_any}
 use Rattle.std.specs.Option.{is_some}
 use Rattle.mat_model.specs.declared.book.Row.{Row}
 use Rattle.mat_model.specs.Rows.{are_apart, comes_before, is_apart, is_clear_of, overlaps_row, put_row}
+use Rattle.mat_tree.specs.Trees.{bytes_of}
+use Rattle.write_plan.specs.declared.method.Method.{Method}
 use Rattle.row_book.specs.declared.stock.Stock.{Stock}
-use Rattle.row_book.specs.Stocks.{held_bytes, held_of, is_clear_stock, is_stock_elsewhere, overlaps_stock, put_stock, rows_of, stock_at}
+use Rattle.row_book.specs.Stocks.{held_bytes, held_of, is_clear_stock, is_held_method, is_stock_elsewhere, overlaps_stock, put_stock, rows_of, stock_at, supplied_stock, with_method}
 use Rattle.row_book.specs.Whole.{IsWhole, Place, listed, place_of, stocks_of}
-use Rattle.row_book.proofs.ChangeLemmas.{rest_away, seen_as, whole_of}
+use Rattle.row_book.proofs.ChangeLemmas.{held_changed, rest_away, seen_as, whole_of}
 use Rattle.row_book.proofs.PutLemmas.{away_all}
 use Rattle.row_book.proofs.RowLemmas.{rows_left, rows_put}
 
@@ -196,3 +198,25 @@ held_most path new stocks =
   where
     within : (sum one rest gone all : ℕ) → sum ≡ one + rest → gone + rest ≡ all → sum ≤ all + one
     within sum one rest gone all is parts = omega (arith, is, parts)
+
+-- another method is one of the row at the path alone
+pub held_supplied : (path : List (List ℕ)) (way : Method) (stocks : List Stock) (found : Stock) → are_apart (rows_of stocks) ≡ true → find (stock_at path) stocks ≡ Some found
+    → held_bytes (map (supplied_stock path way) stocks) + held_of found ≡ held_bytes stocks + held_of (with_method way found)
+held_supplied path way stocks found apart there = held_changed path (with_method way) stocks found apart (sym there)
+
+-- a method that holds nothing adds nothing
+pub held_unheld : (path : List (List ℕ)) (way : Method) (stocks : List Stock) → is_held_method way ≡ false → held_bytes (map (supplied_stock path way) stocks) ≤ held_bytes stocks
+held_unheld path way [] none = omega arith
+held_unheld path way (s ∷ ss) none =
+    both (held_of (supplied_stock path way s)) (held_of s) (held_bytes (map (supplied_stock path way) ss)) (held_bytes ss) (held_bytes (map (supplied_stock path way) (s ∷ ss))) (held_bytes (s ∷ ss))
+    (by (stock_at path s)) (held_unheld path way ss none) (sum_by-cons held_of (supplied_stock path way s) (map (supplied_stock path way) ss)) (sum_by-cons held_of s ss)
+  where
+    both : (a b m n sum all : ℕ) → a ≤ b → m ≤ n → sum ≡ a + m → all ≡ b + n → sum ≤ all
+    both a b m n sum all first rest is are = omega (arith, first, rest, is, are)
+
+    low : (a b : ℕ) → a ≡ 0 → a ≤ b
+    low a b is = omega (arith, is)
+
+    by : (b : Bool) → held_of (cond b (with_method way s) s) ≤ held_of s
+    by true = low (held_of (with_method way s)) (held_of s) (ap (λ b. cond b (bytes_of s.row.tree) 0) none)
+    by false = omega arith
