@@ -1,0 +1,5 @@
+pub mod Calls
+pub mod Found
+pub mod ReadRows
+pub mod StoredRows
+pub mod Telling

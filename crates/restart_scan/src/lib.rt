@@ -1,0 +1,11 @@
+//! Floor of the machine: what a daemon finds when it opens: the kept rows of the state store, and the strays of the disk.
+#![tactic(auto)]
+
+mod kept;
+mod opening;
+mod reading;
+mod refusal;
+mod scan;
+
+pub use refusal::ScanRefusal;
+pub use scan::scan_rows;
