@@ -1,3 +1,4 @@
+pub mod Asked
 pub mod Beginnings
 pub mod Calling
 pub mod Counting
@@ -5,7 +6,9 @@ pub mod DigestLemmas
 pub mod Fillings
 pub mod Finishing
 pub mod Gets
+pub mod Given
 pub mod Grown
+pub mod Moving
 pub mod Nexts
 pub mod Puts
 pub mod Sealed

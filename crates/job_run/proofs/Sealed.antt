@@ -1,13 +1,12 @@
 -- What a job that stands keeps, in the words of what is seen of it.
-use Rattle.std.proofs.Common.{◌≡◌, ℕ, Bool, false, if◌then◌else◌, List, Option, Some, None, refl, sym, ap, subst}
+use Rattle.std.proofs.Common.{◌≡◌, ℕ, Bool, false, if◌then◌else◌, List, Option, Some, None, refl, sym, subst}
 use Rattle.std.specs.Option.{ForSome}
 use Rattle.mat_model.specs.declared.entries.Outcome.{Outcome}
 use Rattle.mat_tree.specs.declared.flat.Flat.{Flat}
 use Rattle.region_port.specs.declared.port.Region.{Ghosts}
 use Rattle.job_run.specs.Jobs.{state_next}
 use Rattle.job_run.specs.States.{failure_of, has_ended, region_of}
-use Rattle.job_run.specs.Steps.{Asks, CallsPart, CallsRegion, DoingAsks, FillingAsks, IsAt, Spot, Stands, StateAsks, Told, doing_fetching, doing_spot, filling_fetching, filling_spot, part_call, loan_call, source_spot, spot_next, state_fetching, state_spot, store_call}
-use Rattle.job_run.specs.declared.job.Next.{Next}
+use Rattle.job_run.specs.Steps.{Asks, CallsPart, CallsRegion, DoingAsks, FillingAsks, IsAt, Stands, StateAsks, Told, doing_fetching, doing_spot, filling_fetching, filling_spot, loan_call, spot_next, state_fetching, state_spot, store_call}
 use Rattle.job_run.specs.declared.job.Next.TheVariants as next
 use Rattle.job_run.specs.declared.states.Doing.{Doing}
 use Rattle.job_run.specs.declared.states.Doing.TheVariants as doing

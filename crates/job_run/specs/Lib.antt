@@ -1,8 +1,10 @@
+pub mod Asking
 pub mod Begun
 pub mod Done
 pub mod Failures
 pub mod Growing
 pub mod Jobs
+pub mod Moves
 pub mod Orders
 pub mod Pieces
 pub mod Readings

@@ -31,6 +31,12 @@ Takes wanted given piece taken.Last = completes wanted given piece ≡ true
 Takes wanted given piece (taken.Wrong found) =
     (goes_on wanted given piece ≡ false) × (completes wanted given piece ≡ false) × (found ≡ digest_of (given ++ piece))
 
+-- whether a file that is read on has some of its bytes
+abbrev pub is_later : Taken → Bool
+is_later (taken.More reading) = not (reading.at == 0)
+is_later taken.Last = true
+is_later (taken.Wrong found) = true
+
 -- how the bytes of a file fail that are read where nothing else has them: all bytes given have the digest found
 abbrev pub judged : Digest → List ℕ → List ℕ → Option Outcome
 judged wanted given piece =

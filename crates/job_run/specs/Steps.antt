@@ -13,7 +13,7 @@ use Rattle.mat_model.specs.declared.entries.Outcome.{Outcome}
 use Rattle.region_port.specs.States.{loan_region, loan_tree}
 use Rattle.region_port.specs.declared.states.ReadLoan.{ReadLoan}
 use Rattle.job_run.specs.Failures.{IsDiskCall}
-use Rattle.job_run.specs.StoreCalls.{IsStoreCall}
+use Rattle.job_run.specs.StoreCalls.{IsFrom, IsStoreCall}
 use Rattle.job_run.specs.declared.states.Filing.{Filing}
 use Rattle.job_run.specs.Orders.{IsLeft, IsMakeable}
 use Rattle.job_run.specs.States.{HasEnded, IsMakeOf, failure_of, region_of}
@@ -96,6 +96,11 @@ state_fetching (state.Clearing region order) = None
 state_fetching (state.Making making) = doing_fetching making.doing
 state_fetching (state.Ended left ended) = None
 state_fetching state.Moving = None
+
+-- what was given for the file that is read in the store is what this store holds
+abbrev pub FetchingFrom : Option Blobs → Option Fetching → Type 0
+FetchingFrom blobs None = Unit {0}
+FetchingFrom blobs (Some file) = IsFrom blobs file.wanted file.reading
 
 -- a job's stage stands: at this place, for this goal, with a part lent or not
 abbrev pub Stands : {R : Type 0} {g : Ghosts R} → List (List ℕ) → Option (List Flat) → Bool → State R g → Type 0

@@ -1,5 +1,5 @@
 -- One call of a job on the store.
-use Rattle.std.specs.Prelude.{◌≡◌, ◌≤◌, ℕ, false, List, ◌++◌, Option, Some, None}
+use Rattle.std.specs.Prelude.{◌≡◌, ◌≤◌, ℕ, false, List, [], ◌++◌, length, take, Option, Some, None}
 use Rattle.std.specs.Option.{option_map}
 use Rattle.fetch_port.specs.Fetches.{Blobs, GivesPiece, Lacks, asks_after, held_at}
 use Rattle.mat_io.specs.Watches.{Watch, FailsSo, after_call}
@@ -38,3 +38,26 @@ pub record IsStoreCall (wanted : Digest) (reading : Reading) (held : Option Blob
   pub asks_so : asked ≡ asks_after reading.at asks
   pub watch : watching ≡ option_map after_call watched
   pub fails : FailsSo watched (is_fault failure)
+
+-- ---- what was given for a file over several calls
+
+-- bytes are the first ones that a store holds, where it tells; where it lacks them, there are none
+abbrev pub AreFirst : Option (Option (List ℕ)) → List ℕ → Type 0
+AreFirst None bytes = Unit {0}
+AreFirst (Some None) bytes = bytes ≡ []
+AreFirst (Some (Some held)) bytes = bytes ≡ take (length bytes) held
+
+-- all bytes given for a file so far are those that a store holds
+pub record IsFrom (blobs : Option Blobs) (wanted : Digest) (reading : Reading) : Type 0 where
+  pub given : List ℕ
+  pub has : HasGiven reading given
+  pub first : AreFirst (held_at blobs wanted) given
+
+-- a store gave bytes that aren't those of a digest: these, in order, each piece what it holds from there, where it tells
+pub record Misgives (held : Option (Option (List ℕ))) (wanted found : Digest) : Type 0 where
+  pub given : List ℕ
+  pub piece : List ℕ
+  pub found_is : found ≡ digest_of (given ++ piece)
+  pub first : AreFirst held given
+  pub wrong : goes_on wanted given piece ≡ false
+  pub told : GivesPiece held (length given) (asked_for wanted.size (length given)) piece

@@ -1,11 +1,15 @@
 // Which act comes next, and how the bytes of a file come.
-ghost use Rattle.std.specs.Prelude.{◌≡◌, ◌≤◌, ◌+◌, ℕ, List, length, take, drop};
+ghost use Rattle.std.specs.Prelude.{◌≡◌, ◌≤◌, ◌+◌, ℕ, List, length, take, drop, Option};
 ghost use Rattle.mat_tree.specs.declared.flat.Flat.{Flat};
 ghost use Rattle.job_run.specs.Begun.{Begins, BeginsFrom};
 ghost use Rattle.job_run.specs.Orders.{IsLeft, acts_cost, held_bytes, origin_bytes, own_supply, supply_cost};
 ghost use Rattle.write_plan.specs.Plans.{origin_supply};
 ghost use Rattle.job_run.specs.Pieces.{most_bytes};
-ghost use Rattle.job_run.specs.Stages.{doing_cost, filling_cost};
+ghost use Rattle.job_run.specs.Stages.{acts_asks, doing_asks, doing_cost, filling_asks, filling_cost, supply_asks};
+ghost use Rattle.job_run.specs.Steps.{FetchingFrom, doing_fetching, filling_fetching};
+ghost use Rattle.fetch_port.specs.Fetches.{Blobs};
+ghost use Rattle.mat_digest.specs.declared.digest.Digest.{Digest};
+ghost use Rattle.write_plan.specs.declared.method.Method.{Method};
 
 use crate::pieces::MOST_BYTES;
 use crate::reading::Reading;
@@ -67,9 +71,12 @@ pub(crate) fn own_supply(method: &Method) -> Supply
 }
 
 /// How the bytes of a file come first.
+#[tactic(auto, using(crate::proofs::Given::none_given))]
 pub(crate) fn begin(from: Supply) -> Filling
     ensures begins { BeginsFrom from result }
     ensures cost { (size : ℕ) → filling_cost size result ≡ supply_cost size from }
+    ensures asks { (way : Method) → filling_asks way result ≡ supply_asks way from }
+    ensures from { (blobs : Option Blobs) (wanted : Digest) → FetchingFrom blobs (filling_fetching wanted result) }
 {
     match from {
         Supply::Empty => Filling::Held { at: 0 },
@@ -91,6 +98,8 @@ pub(crate) fn next(order: &mut Order) -> Doing
     ensures same { (order.new.tree ≡ order.old.tree) × (order.new.method ≡ order.old.method) × (order.new.lent ≡ order.old.lent) }
     ensures begins { (nodes : List Flat) → IsLeft order.old nodes → Begins nodes order.new result }
     ensures cost { doing_cost result + acts_cost order.new.left.items ≡ acts_cost order.old.left.items }
+    ensures asks { (way : Method) → doing_asks way result + acts_asks way order.new.left.items ≡ acts_asks way order.old.left.items }
+    ensures from { (blobs : Option Blobs) → FetchingFrom blobs (doing_fetching result) }
 {
     match order.left.pop_front() {
         None => unreachable!(),

@@ -1,11 +1,15 @@
 // The first and the last step of a job.
-ghost use Rattle.std.specs.Prelude.{◌≡◌, ◌+◌, [], List, Option, Some, None};
+ghost use Rattle.std.specs.Prelude.{◌≡◌, ◌+◌, [], List, Option, Some, None, ◌≤◌};
 ghost use Rattle.std.specs.Option.{ForSome};
 ghost use Rattle.mat_tree.specs.Parts.{bare};
 ghost use Rattle.job_run.specs.Failures.{IsDiskCall};
 ghost use Rattle.job_run.specs.Orders.{IsLeft, IsMakeable, acts_cost};
 ghost use Rattle.job_run.specs.Stages.{IsMaking, making_cost};
 ghost use Rattle.job_run.specs.States.{Continues, Empties, failure_of, region_of};
+ghost use Rattle.fetch_port.specs.Fetches.{Blobs};
+ghost use Rattle.job_run.specs.Stages.{acts_asks};
+ghost use Rattle.job_run.specs.States.{state_asks};
+ghost use Rattle.job_run.specs.Steps.{FetchingFrom, state_fetching};
 
 use crate::calls;
 use crate::failure::fault;
@@ -20,6 +24,8 @@ pub(crate) fn clear<R: Region>(mut region: R, order: Order) -> State<R>
     requires left { IsLeft order [] }
     ensures call { ForSome (region_of result) (λ now. IsDiskCall (R.fault_count region) (R.fault_count now) (R.watch region) (R.watch now) (failure_of result)) }
     ensures goes { Continues (R.place region) order.tree order.lent (acts_cost order.left.items + 1) result }
+    ensures asks { state_asks result ≤ acts_asks order.method order.left.items }
+    ensures from { (blobs : Option Blobs) → FetchingFrom blobs (state_fetching result) }
 {
     let failure = calls::wipe(&mut region);
     after_node(region, order, failure)
@@ -30,6 +36,8 @@ pub(crate) fn settle<R: Region>(region: R, order: Order) -> State<R>
     requires { IsMaking (R.place region) (R.part region) order Doing.Sync }
     ensures call { ForSome (region_of result) (λ now. IsDiskCall (R.fault_count region) (R.fault_count now) (R.watch region) (R.watch now) (failure_of result)) }
     ensures goes { Continues (R.place region) order.tree order.lent (making_cost order Doing.Sync) result }
+    ensures asks { state_asks result ≡ 0 }
+    ensures from { (blobs : Option Blobs) → FetchingFrom blobs (state_fetching result) }
 {
     let before = region.faults();
     match Rough::new(region).settle(order.tree) {
@@ -48,6 +56,8 @@ pub(crate) fn settle<R: Region>(region: R, order: Order) -> State<R>
 pub(crate) fn wipe<R: Region>(mut region: R) -> State<R>
     ensures call { ForSome (region_of result) (λ now. IsDiskCall (R.fault_count region) (R.fault_count now) (R.watch region) (R.watch now) (failure_of result)) }
     ensures goes { Empties (R.place region) 2 result }
+    ensures asks { state_asks result ≡ 0 }
+    ensures from { (blobs : Option Blobs) → FetchingFrom blobs (state_fetching result) }
 {
     match calls::wipe(&mut region) {
         None => State::Emptying(region),
@@ -60,6 +70,8 @@ pub(crate) fn empty<R: Region>(region: R) -> State<R>
     requires { ForSome (R.part region) (λ part. part ≡ bare) }
     ensures call { ForSome (region_of result) (λ now. IsDiskCall (R.fault_count region) (R.fault_count now) (R.watch region) (R.watch now) (failure_of result)) }
     ensures goes { Empties (R.place region) 1 result }
+    ensures asks { state_asks result ≡ 0 }
+    ensures from { (blobs : Option Blobs) → FetchingFrom blobs (state_fetching result) }
 {
     let before = region.faults();
     match Rough::new(region).empty() {

@@ -6,6 +6,11 @@ ghost use Rattle.job_run.specs.Readings.{HasGiven, judged};
 ghost use Rattle.job_run.specs.Stages.{IsMaking, making_cost};
 ghost use Rattle.job_run.specs.States.{Continues, failure_of, region_of};
 ghost use Rattle.job_run.specs.StoreCalls.{IsStoreCall};
+ghost use Rattle.fetch_port.specs.Fetches.{Blobs, GivesPiece, held_at};
+ghost use Rattle.job_run.specs.Stages.{acts_asks};
+ghost use Rattle.job_run.specs.States.{state_asks};
+ghost use Rattle.job_run.specs.Steps.{FetchingFrom, state_fetching};
+ghost use Rattle.job_run.specs.StoreCalls.{IsFrom};
 
 use crate::acts;
 use crate::failure::fault;
@@ -44,6 +49,8 @@ fn take_fetched<R: Region>(
     ensures region { region_of result ≡ Some region }
     ensures failure { (given : List ℕ) → HasGiven reading given → failure_of result ≡ judged filing.digest given piece.items }
     ensures goes { Continues (R.place region) order.tree order.lent (making_cost order (Doing.File filing (Filling.Due Source.Store reading))) result }
+    ensures asks { state_asks result ≤ acts_asks order.method order.left.items }
+    ensures from { (blobs : Option Blobs) → GivesPiece (held_at blobs filing.digest) reading.at (asked_for filing.digest.size reading.at) piece.items → IsFrom blobs filing.digest reading → FetchingFrom blobs (state_fetching result) }
 {
     let at = reading.at;
     let from = Source::Store;
@@ -88,6 +95,8 @@ pub(crate) fn fetch<R: Region, F: Fetcher>(
     ensures same { F.holds fetcher.new ≡ F.holds fetcher.old }
     ensures call { IsStoreCall filing.digest reading (F.holds fetcher.old) (F.fault_count fetcher.old) (F.fault_count fetcher.new) (F.fetches fetcher.old) (F.fetches fetcher.new) (F.watch fetcher.old) (F.watch fetcher.new) (failure_of result) }
     ensures goes { Continues (R.place region) order.tree order.lent (making_cost order (Doing.File filing (Filling.Due Source.Store reading))) result }
+    ensures asks { state_asks result ≤ acts_asks order.method order.left.items }
+    ensures from { IsFrom (F.holds fetcher.old) filing.digest reading → FetchingFrom (F.holds fetcher.old) (state_fetching result) }
 {
     let before = fetcher.faults();
     let most = asked_for(filing.digest.size, reading.at);

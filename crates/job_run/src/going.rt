@@ -1,11 +1,15 @@
 // How a job goes on behind a device call, and how it stops.
-ghost use Rattle.std.specs.Prelude.{◌≡◌, ◌<◌, ◌+◌, ℕ, List, Option, Some, None};
+ghost use Rattle.std.specs.Prelude.{◌≡◌, ◌<◌, ◌+◌, ℕ, List, Option, Some, None, ◌≤◌};
 ghost use Rattle.mat_tree.specs.declared.flat.Flat.{Flat};
 ghost use Rattle.region_port.specs.States.{state_region};
 ghost use Rattle.job_run.specs.Failures.{IsDiskWhy};
 ghost use Rattle.job_run.specs.Orders.{acts_cost};
 ghost use Rattle.job_run.specs.Stages.{IsBehind, IsMaking, making_cost};
 ghost use Rattle.job_run.specs.States.{Continues, IsStopped, failure_of, region_of};
+ghost use Rattle.fetch_port.specs.Fetches.{Blobs};
+ghost use Rattle.job_run.specs.Stages.{acts_asks, making_asks};
+ghost use Rattle.job_run.specs.States.{state_asks};
+ghost use Rattle.job_run.specs.Steps.{FetchingFrom, doing_fetching, filling_fetching, state_fetching};
 
 use crate::acts;
 use crate::states::{Doing, Filing, Filling, Making, Order, State};
@@ -14,7 +18,9 @@ use region_port::{Part, Region, Rough};
 
 /// A job that ends with a failure.
 pub(crate) fn stop<R: Region>(region: R, outcome: Outcome) -> State<R>
-    ensures { IsStopped region outcome result }
+    ensures stopped { IsStopped region outcome result }
+    ensures asks { state_asks result ≡ 0 }
+    ensures from { (blobs : Option Blobs) → FetchingFrom blobs (state_fetching result) }
 {
     State::Ended(Part::Rough(Rough::new(region)), outcome)
 }
@@ -27,6 +33,8 @@ pub(crate) fn go_on<R: Region>(region: R, mut order: Order) -> Making<R>
     ensures lent { result.order.lent ≡ order.lent }
     ensures stands { IsMaking (R.place region) (R.part region) result.order result.doing }
     ensures cost { making_cost result.order result.doing ≡ acts_cost order.left.items }
+    ensures asks { making_asks result.order result.doing ≡ acts_asks order.method order.left.items }
+    ensures from { (blobs : Option Blobs) → FetchingFrom blobs (doing_fetching result.doing) }
 {
     let doing = acts::next(&mut order);
     Making {
@@ -43,6 +51,8 @@ pub(crate) fn after_node<R: Region>(region: R, order: Order, failure: Option<Out
     ensures region { region_of result ≡ Some region }
     ensures failure { failure_of result ≡ failure }
     ensures goes { (cost : ℕ) → acts_cost order.left.items < cost → Continues (R.place region) order.tree order.lent cost result }
+    ensures asks { state_asks result ≤ acts_asks order.method order.left.items }
+    ensures from { (blobs : Option Blobs) → FetchingFrom blobs (state_fetching result) }
 {
     match failure {
         None => State::Making(go_on(region, order)),
@@ -63,6 +73,8 @@ pub(crate) fn after_piece<R: Region>(
     ensures region { region_of result ≡ Some region }
     ensures failure { failure_of result ≡ failure }
     ensures goes { (cost : ℕ) → making_cost order (Doing.File filing how) < cost → Continues (R.place region) order.tree order.lent cost result }
+    ensures asks { state_asks result ≤ making_asks order (Doing.File filing how) }
+    ensures from { (blobs : Option Blobs) → FetchingFrom blobs (filling_fetching filing.digest how) → FetchingFrom blobs (state_fetching result) }
 {
     match failure {
         None => State::Making(Making {

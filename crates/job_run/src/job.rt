@@ -1,11 +1,13 @@
 // Jobs, which make a tree at a path or leave nothing there, in steps of one device call each.
-ghost use Rattle.std.specs.Prelude.{◌≡◌, ◌<◌, if◌then◌else◌, None, Some, true, false};
+ghost use Rattle.std.specs.Prelude.{◌≡◌, ◌<◌, ◌≤◌, ◌+◌, if◌then◌else◌, None, Some, true, false};
 ghost use Rattle.std.specs.List.{list_all};
 ghost use Rattle.std.specs.Option.{is_some};
 ghost use Rattle.mat_tree.specs.Trees.{is_placed};
 ghost use Rattle.region_port.specs.States.{rough_region, state_region};
 ghost use Rattle.write_plan.specs.Plans.{plan_of};
 ghost use Rattle.job_run.specs.Done.{counts_fault, ends_task, is_make, leaves_part, task_path};
+ghost use Rattle.job_run.specs.Asking.{asks_of};
+ghost use Rattle.job_run.specs.Moves.{Causes, LoanMoves, Moves, RegionMoves, around, left_by};
 ghost use Rattle.job_run.specs.Orders.{is_right};
 ghost use Rattle.job_run.specs.States.{HasEnded, failing};
 ghost use Rattle.job_run.specs.Steps.{Asks, CallsLoan, CallsRegion, IsAt, LoanStays, loan_call, part_call, store_call, told_now};
@@ -82,6 +84,7 @@ impl<R: Region> Job<R> {
         ensures region { job_region result ≡ Some (rough_region part) }
         ensures going { is_over result ≡ false }
         ensures fetching { job_fetching result ≡ None }
+        ensures asks { asks_left result ≡ 0 }
     {
         let machine = Machine::wipe(card, part);
         Job { machine }
@@ -108,6 +111,7 @@ impl<R: Region> Job<R> {
         ensures region { job_region result ≡ Some (rough_region part) }
         ensures going { is_over result ≡ false }
         ensures fetching { job_fetching result ≡ None }
+        ensures asks { asks_left result ≡ asks_of method tree }
     {
         let machine = Machine::make(card, part, tree, method, acts, loan);
         Job { machine }
@@ -156,6 +160,8 @@ impl<R: Region> Job<R> {
         ensures on_loan { job_spot self.old ≡ loan_call → (job_region self.new ≡ job_region self.old) × CallsLoan ⟦<R as Region>⟧ (job_loan self.old) (job_loan self.new) (job_failure self.new) × (fetcher.new ≡ fetcher.old) }
         ensures on_store { job_spot self.old ≡ store_call → (job_region self.new ≡ job_region self.old) × (job_loan self.new ≡ job_loan self.old) × Asks (job_fetching self.old) (told_now (F.holds fetcher.old) (F.fault_count fetcher.old) (F.fetches fetcher.old) (F.watch fetcher.old)) (told_now (F.holds fetcher.new) (F.fault_count fetcher.new) (F.fetches fetcher.new) (F.watch fetcher.new)) (job_failure self.new) }
         ensures holds { F.holds fetcher.new ≡ F.holds fetcher.old }
+        ensures moves { Moves ⟦<R as Region>⟧ self.old (told_now (F.holds fetcher.old) (F.fault_count fetcher.old) (F.fetches fetcher.old) (F.watch fetcher.old)) self.new (told_now (F.holds fetcher.new) (F.fault_count fetcher.new) (F.fetches fetcher.new) (F.watch fetcher.new)) }
+        ensures causes { Causes ⟦<R as Region>⟧ (around self.old (told_now (F.holds fetcher.old) (F.fault_count fetcher.old) (F.fetches fetcher.old) (F.watch fetcher.old))) (around self.new (told_now (F.holds fetcher.new) (F.fault_count fetcher.new) (F.fetches fetcher.new) (F.watch fetcher.new))) (job_failure self.new) }
     {
         self.machine.step(fetcher)
     }
@@ -187,8 +193,12 @@ impl<R: Region> Job<R> {
 pub fn work_off<R: Region, F: Fetcher>(mut job: Job<R>, fetcher: &mut F) -> Done<R>
     ensures card { result.card ≡ job_card job }
     ensures ended { HasEnded (task_path result.card.task) (job_goal job) result.part result.outcome }
-    ensures loan { LoanStays ⟦<R as Region>⟧ (job_loan job) result.loan }
+    ensures region { RegionMoves ⟦<R as Region>⟧ (job_region job) (Some (state_region result.part)) }
+    ensures loan { LoanMoves ⟦<R as Region>⟧ (job_loan job) result.loan }
     ensures holds { F.holds fetcher.new ≡ F.holds fetcher.old }
+    ensures faults { F.fault_count fetcher.old ≤ F.fault_count fetcher.new }
+    ensures asks { F.fetches fetcher.new ≤ F.fetches fetcher.old + asks_left job }
+    ensures causes { job_failure job ≡ None → Causes ⟦<R as Region>⟧ (around job (told_now (F.holds fetcher.old) (F.fault_count fetcher.old) (F.fetches fetcher.old) (F.watch fetcher.old))) (left_by (Some (state_region result.part)) result.loan (told_now (F.holds fetcher.new) (F.fault_count fetcher.new) (F.fetches fetcher.new) (F.watch fetcher.new))) (failing result.outcome) }
 {
     'steps: while !job.has_ended() {
         job.step(fetcher);

@@ -8,7 +8,10 @@ ghost use Rattle.write_plan.specs.Plans.{plan_of};
 ghost use Rattle.job_run.specs.Jobs.{IsJob, machine_asks, machine_card, machine_cost, machine_failure, machine_fetching, machine_goal, machine_loan, machine_next, machine_over, machine_region, machine_spot, state_next};
 ghost use Rattle.job_run.specs.Done.{is_make, task_path};
 ghost use Rattle.job_run.specs.States.{HasEnded, failing, region_of};
+ghost use Rattle.job_run.specs.Asking.{asks_of};
+ghost use Rattle.job_run.specs.Moves.{Causes, Moves, around};
 ghost use Rattle.job_run.specs.Orders.{IsLeft, IsMakeable, is_right};
+ghost use Rattle.job_run.specs.Seen.{seen};
 ghost use Rattle.job_run.specs.Steps.{Asks, CallsLoan, CallsRegion, LoanStays, doing_spot, source_spot, spot_next, loan_call, part_call, store_call, told_now};
 
 use crate::job::{Done, Next, Stepped};
@@ -84,6 +87,7 @@ fn begin(card: &Card, tree: Tree, method: Method, acts: Vec<Act>, lent: bool) ->
     ensures left { IsLeft result [] }
     ensures tree { result.tree ≡ tree }
     ensures lent { result.lent ≡ lent }
+    ensures way { result.method ≡ method }
 {
     let _ = card;
     let _ = tree.root();
@@ -135,6 +139,7 @@ impl<R: Region> Machine<R> {
         ensures region { machine_region result ≡ Some (rough_region part) }
         ensures going { machine_over result ≡ false }
         ensures fetching { machine_fetching result ≡ None }
+        ensures asks { machine_asks result ≡ 0 }
     {
         let goal = Goal::Nothing;
         Machine {
@@ -167,6 +172,7 @@ impl<R: Region> Machine<R> {
         ensures region { machine_region result ≡ Some (rough_region part) }
         ensures going { machine_over result ≡ false }
         ensures fetching { machine_fetching result ≡ None }
+        ensures asks { machine_asks result ≡ asks_of method tree }
     {
         let lent = loan.is_some();
         let goal = Goal::Tree(tree);
@@ -218,6 +224,8 @@ impl<R: Region> Machine<R> {
         ensures on_loan { machine_spot self.old ≡ loan_call → (machine_region self.new ≡ machine_region self.old) × CallsLoan ⟦<R as Region>⟧ (machine_loan self.old) (machine_loan self.new) (machine_failure self.new) × (fetcher.new ≡ fetcher.old) }
         ensures on_store { machine_spot self.old ≡ store_call → (machine_region self.new ≡ machine_region self.old) × (machine_loan self.new ≡ machine_loan self.old) × Asks (machine_fetching self.old) (told_now (F.holds fetcher.old) (F.fault_count fetcher.old) (F.fetches fetcher.old) (F.watch fetcher.old)) (told_now (F.holds fetcher.new) (F.fault_count fetcher.new) (F.fetches fetcher.new) (F.watch fetcher.new)) (machine_failure self.new) }
         ensures holds { F.holds fetcher.new ≡ F.holds fetcher.old }
+        ensures moves { Moves ⟦<R as Region>⟧ (seen self.old) (told_now (F.holds fetcher.old) (F.fault_count fetcher.old) (F.fetches fetcher.old) (F.watch fetcher.old)) (seen self.new) (told_now (F.holds fetcher.new) (F.fault_count fetcher.new) (F.fetches fetcher.new) (F.watch fetcher.new)) }
+        ensures causes { Causes ⟦<R as Region>⟧ (around (seen self.old) (told_now (F.holds fetcher.old) (F.fault_count fetcher.old) (F.fetches fetcher.old) (F.watch fetcher.old))) (around (seen self.new) (told_now (F.holds fetcher.new) (F.fault_count fetcher.new) (F.fetches fetcher.new) (F.watch fetcher.new))) (machine_failure self.new) }
     {
         let state = mem::replace(&mut self.state, State::Moving);
         let next = advance(state, &mut self.loan, fetcher);

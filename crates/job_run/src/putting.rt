@@ -4,6 +4,10 @@ ghost use Rattle.std.specs.Option.{ForSome};
 ghost use Rattle.job_run.specs.Failures.{IsDiskCall};
 ghost use Rattle.job_run.specs.Stages.{IsMaking, making_cost};
 ghost use Rattle.job_run.specs.States.{Continues, failure_of, region_of};
+ghost use Rattle.fetch_port.specs.Fetches.{Blobs};
+ghost use Rattle.job_run.specs.Stages.{acts_asks, more_asks};
+ghost use Rattle.job_run.specs.States.{state_asks};
+ghost use Rattle.job_run.specs.Steps.{FetchingFrom, more_fetching, state_fetching};
 
 use crate::acts::{held_bytes, held_piece};
 use crate::calls;
@@ -18,6 +22,8 @@ pub(crate) fn put_dir<R: Region>(mut region: R, order: Order, rel: Rel) -> State
     requires { IsMaking (R.place region) (R.part region) order (Doing.Dir rel) }
     ensures call { ForSome (region_of result) (λ now. IsDiskCall (R.fault_count region) (R.fault_count now) (R.watch region) (R.watch now) (failure_of result)) }
     ensures goes { Continues (R.place region) order.tree order.lent (making_cost order (Doing.Dir rel)) result }
+    ensures asks { state_asks result ≤ acts_asks order.method order.left.items }
+    ensures from { (blobs : Option Blobs) → FetchingFrom blobs (state_fetching result) }
 {
     let failure = calls::put_dir(&mut region, &rel);
     after_node(region, order, failure)
@@ -28,6 +34,8 @@ pub(crate) fn put_link<R: Region>(mut region: R, order: Order, rel: Rel, target:
     requires { IsMaking (R.place region) (R.part region) order (Doing.Link rel target) }
     ensures call { ForSome (region_of result) (λ now. IsDiskCall (R.fault_count region) (R.fault_count now) (R.watch region) (R.watch now) (failure_of result)) }
     ensures goes { Continues (R.place region) order.tree order.lent (making_cost order (Doing.Link rel target)) result }
+    ensures asks { state_asks result ≤ acts_asks order.method order.left.items }
+    ensures from { (blobs : Option Blobs) → FetchingFrom blobs (state_fetching result) }
 {
     let failure = calls::put_link(&mut region, &rel, &target);
     after_node(region, order, failure)
@@ -43,6 +51,8 @@ pub(crate) fn put_held<R: Region>(
     requires { IsMaking (R.place region) (R.part region) order (Doing.File filing (Filling.Held at)) }
     ensures call { ForSome (region_of result) (λ now. IsDiskCall (R.fault_count region) (R.fault_count now) (R.watch region) (R.watch now) (failure_of result)) }
     ensures goes { Continues (R.place region) order.tree order.lent (making_cost order (Doing.File filing (Filling.Held at))) result }
+    ensures asks { state_asks result ≤ acts_asks order.method order.left.items }
+    ensures from { (blobs : Option Blobs) → FetchingFrom blobs (state_fetching result) }
 {
     let bytes = held_bytes(&order.method);
     let piece = held_piece(bytes, at);
@@ -68,6 +78,8 @@ pub(crate) fn put_got<R: Region>(
     requires { IsMaking (R.place region) (R.part region) order (Doing.File filing (Filling.Got from at piece more)) }
     ensures call { ForSome (region_of result) (λ now. IsDiskCall (R.fault_count region) (R.fault_count now) (R.watch region) (R.watch now) (failure_of result)) }
     ensures goes { Continues (R.place region) order.tree order.lent (making_cost order (Doing.File filing (Filling.Got from at piece more))) result }
+    ensures asks { state_asks result ≤ more_asks order.method from more + acts_asks order.method order.left.items }
+    ensures from { (blobs : Option Blobs) → FetchingFrom blobs (more_fetching filing.digest from more) → FetchingFrom blobs (state_fetching result) }
 {
     let failure = calls::put_piece(&mut region, &filing.rel, filing.exec, at, piece.as_slice());
     match more {

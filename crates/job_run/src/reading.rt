@@ -1,8 +1,8 @@
 // A file that is read piece by piece.
-ghost use Rattle.std.specs.Prelude.{◌≡◌, ◌≤◌, ◌+◌, ℕ, List, [], length, if◌then◌else◌};
+ghost use Rattle.std.specs.Prelude.{◌≡◌, ◌≤◌, ◌+◌, true, ℕ, List, [], length, if◌then◌else◌};
 ghost use Rattle.mat_tree.specs.Trees.{greatest_file, same_digest};
 ghost use Rattle.job_run.specs.Pieces.{most_bytes};
-ghost use Rattle.job_run.specs.Readings.{HasGiven, Takes};
+ghost use Rattle.job_run.specs.Readings.{HasGiven, Takes, is_later};
 
 use crate::pieces::{self, MOST_BYTES};
 use mat_digest::{Check, Digest};
@@ -51,7 +51,8 @@ impl Reading {
         requires small { wanted.now.size ≤ greatest_file }
         requires within { self.at ≤ wanted.now.size }
         requires short { length piece.now ≤ most_bytes + 1 }
-        ensures { (given : List ℕ) → HasGiven self given → Takes wanted.now given piece.now result }
+        ensures takes { (given : List ℕ) → HasGiven self given → Takes wanted.now given piece.now result }
+        ensures later { is_later result ≡ true }
     {
         let Reading { at, mut check } = self;
         check.feed(piece);

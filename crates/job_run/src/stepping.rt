@@ -1,5 +1,5 @@
 // One step of a job, by its stage.
-ghost use Rattle.std.specs.Prelude.{◌≡◌, ◌<◌, ℕ, List, Option, Some, None, true, false};
+ghost use Rattle.std.specs.Prelude.{◌≡◌, ◌<◌, ℕ, List, Option, Some, None, true, false, ◌≤◌, ◌+◌};
 ghost use Rattle.std.specs.Option.{ForSome, is_some};
 ghost use Rattle.mat_tree.specs.declared.flat.Flat.{Flat};
 ghost use Rattle.region_port.specs.States.{loan_region, loan_tree};
@@ -7,6 +7,9 @@ ghost use Rattle.job_run.specs.Failures.{IsDiskCall};
 ghost use Rattle.job_run.specs.Stages.{IsMaking, making_cost};
 ghost use Rattle.job_run.specs.States.{Continues, failure_of, has_ended, region_of, state_cost};
 ghost use Rattle.job_run.specs.Steps.{CallsLoan, CallsPart, DoingAsks, FillingAsks, Stands, StateAsks, doing_spot, filling_spot, loan_call, part_call, state_spot, store_call, told_now};
+ghost use Rattle.job_run.specs.Stages.{making_asks};
+ghost use Rattle.job_run.specs.States.{state_asks};
+ghost use Rattle.job_run.specs.Steps.{FetchingFrom, doing_fetching, filling_fetching, state_fetching};
 
 use crate::ending::{clear, empty, settle, wipe};
 use crate::getting::fetch;
@@ -33,6 +36,8 @@ fn fill<R: Region, F: Fetcher>(
     ensures on_loan { filling_spot how ≡ loan_call → (region_of result ≡ Some region) × CallsLoan ⟦<R as Region>⟧ loan.old loan.new (failure_of result) × (fetcher.new ≡ fetcher.old) }
     ensures on_store { filling_spot how ≡ store_call → (region_of result ≡ Some region) × (loan.new ≡ loan.old) × FillingAsks filing how (told_now (F.holds fetcher.old) (F.fault_count fetcher.old) (F.fetches fetcher.old) (F.watch fetcher.old)) (told_now (F.holds fetcher.new) (F.fault_count fetcher.new) (F.fetches fetcher.new) (F.watch fetcher.new)) (failure_of result) }
     ensures holds { F.holds fetcher.new ≡ F.holds fetcher.old }
+    ensures asks { F.fetches fetcher.new + state_asks result ≤ F.fetches fetcher.old + making_asks order (Doing.File filing how) }
+    ensures from { FetchingFrom (F.holds fetcher.old) (filling_fetching filing.digest how) → FetchingFrom (F.holds fetcher.old) (state_fetching result) }
 {
     match how {
         Filling::Held { at } => put_held(region, order, filing, at),
@@ -66,6 +71,8 @@ fn make<R: Region, F: Fetcher>(
     ensures on_loan { doing_spot making.doing ≡ loan_call → (region_of result ≡ Some making.region) × CallsLoan ⟦<R as Region>⟧ loan.old loan.new (failure_of result) × (fetcher.new ≡ fetcher.old) }
     ensures on_store { doing_spot making.doing ≡ store_call → (region_of result ≡ Some making.region) × (loan.new ≡ loan.old) × DoingAsks making.doing (told_now (F.holds fetcher.old) (F.fault_count fetcher.old) (F.fetches fetcher.old) (F.watch fetcher.old)) (told_now (F.holds fetcher.new) (F.fault_count fetcher.new) (F.fetches fetcher.new) (F.watch fetcher.new)) (failure_of result) }
     ensures holds { F.holds fetcher.new ≡ F.holds fetcher.old }
+    ensures asks { F.fetches fetcher.new + state_asks result ≤ F.fetches fetcher.old + making_asks making.order making.doing }
+    ensures from { FetchingFrom (F.holds fetcher.old) (doing_fetching making.doing) → FetchingFrom (F.holds fetcher.old) (state_fetching result) }
 {
     let Making {
         region,
@@ -95,6 +102,8 @@ pub(crate) fn advance<R: Region, F: Fetcher>(
     ensures on_loan { state_spot state ≡ loan_call → (region_of result ≡ region_of state) × CallsLoan ⟦<R as Region>⟧ loan.old loan.new (failure_of result) × (fetcher.new ≡ fetcher.old) }
     ensures on_store { state_spot state ≡ store_call → (region_of result ≡ region_of state) × (loan.new ≡ loan.old) × StateAsks state (told_now (F.holds fetcher.old) (F.fault_count fetcher.old) (F.fetches fetcher.old) (F.watch fetcher.old)) (told_now (F.holds fetcher.new) (F.fault_count fetcher.new) (F.fetches fetcher.new) (F.watch fetcher.new)) (failure_of result) }
     ensures holds { F.holds fetcher.new ≡ F.holds fetcher.old }
+    ensures asks { F.fetches fetcher.new + state_asks result ≤ F.fetches fetcher.old + state_asks state }
+    ensures from { FetchingFrom (F.holds fetcher.old) (state_fetching state) → FetchingFrom (F.holds fetcher.old) (state_fetching result) }
 {
     match state {
         State::Wiping(region) => wipe(region),

@@ -33,5 +33,5 @@ returns-in-Bytes-clause-call g c =
 pub returns-in-Absent-clause-goes : goal.returns-in-Absent-clause-goes
 returns-in-Absent-clause-goes g c =
     stopped_goes c.args.region (outcome.Missing c.args.filing.digest) c.stop.result c.args.order.tree c.args.order.lent
-    (making_cost c.args.order (doing.File c.args.filing (filling.Due source.Store c.args.reading))) c.stop.ensures
+    (making_cost c.args.order (doing.File c.args.filing (filling.Due source.Store c.args.reading))) c.stop.ensures.stopped
     (file_among (g.R.Region.place c.args.region) (g.R.Region.part c.args.region) c.args.order c.args.filing source.Store c.args.reading c.requires) (λ left. tt)

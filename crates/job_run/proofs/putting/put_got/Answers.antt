@@ -1,4 +1,5 @@
-use Rattle.std.proofs.Common.{ℕ, List, subst, arith}
+use Rattle.job_run.specs.Steps.{FetchingFrom, more_fetching}
+use Rattle.std.proofs.Common.{ℕ, List, subst, arith, Option}
 use Rattle.job_run.specs.Stages.{making_cost}
 use Rattle.job_run.specs.States.{Continues}
 use Rattle.job_run.specs.declared.states.Doing.TheVariants as doing
@@ -45,3 +46,10 @@ returns-in-Some-clause-goes g c =
     (making_cost c.args.order (doing.File c.args.filing (filling.Got c.args.from c.args.at c.args.piece c.args.more))) c.after_piece.result)
     c.put_piece-failure.ensures.place
     (c.after_piece.ensures.goes (making_cost c.args.order (doing.File c.args.filing (filling.Got c.args.from c.args.at c.args.piece c.args.more))) (omega arith))
+
+pub returns-in-None-clause-from : goal.returns-in-None-clause-from
+returns-in-None-clause-from g c = λ blobs from. c.after_node.ensures.from blobs
+
+pub returns-in-Some-clause-from : goal.returns-in-Some-clause-from
+returns-in-Some-clause-from g c = λ blobs from.
+    c.after_piece.ensures.from blobs (subst (λ (m : Option Reading). FetchingFrom blobs (more_fetching c.args.filing.digest c.args.from m)) c.in-Some.is from)

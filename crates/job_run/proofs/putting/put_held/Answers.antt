@@ -29,3 +29,6 @@ returns-clause-goes g c =
     let less = held_less (g.R.Region.place c.args.region) (g.R.Region.part c.args.region) c.args.order c.args.filing c.args.at c.held_piece-piece.result.now c.requires (c.held_piece-piece.ensures ∙ ap (λ (l : List ℕ). take most_bytes (drop c.args.at l)) c.held_bytes-bytes.ensures) (λ over. c.if-is_over.false (over ∙ ap length (sym c.held_bytes-bytes.ensures))) in
     subst (λ (p : List (List ℕ)). Continues p c.args.order.tree c.args.order.lent (making_cost c.args.order (doing.File c.args.filing (filling.Held c.args.at))) c.after_piece.result)
     c.put_piece-failure.ensures.place (c.after_piece.ensures.goes (making_cost c.args.order (doing.File c.args.filing (filling.Held c.args.at))) (omega arith))
+
+pub returns-clause-from : goal.returns-clause-from
+returns-clause-from g c = λ blobs. c.after_piece.ensures.from blobs tt

@@ -20,3 +20,6 @@ pub returns-in-Making-clause-on_part : goal.returns-in-Making-clause-on_part
 returns-in-Making-clause-on_part g c = λ spot.
     let all = c.make.ensures.on_part (ap state_spot (sym c.in-Making.is) ∙ spot) in
     (called_from (region_of c.args.state) c.in-Making.making.region c.make.result (ap region_of c.in-Making.is) all.0, all.1, all.2)
+
+pub returns-in-Clearing-clause-from : goal.returns-in-Clearing-clause-from
+returns-in-Clearing-clause-from g c = λ from. c.clear.ensures.from (g.F.Fetcher.holds c.args.fetcher.now)

@@ -5,6 +5,7 @@ use Rattle.job_run.specs.Jobs.{goal_tree}
 use Rattle.job_run.specs.States.{failure_of, region_of}
 use Rattle.job_run.specs.Steps.{state_spot, told_now}
 use Rattle.job_run.proofs.Counting.{counted_after, counts_moved, stands_lent, stands_moved, stays_after}
+use Rattle.job_run.proofs.Moving.{stages_move}
 use Rattle.job_run.proofs.Sealed.{asked_so, called_so}
 use Rattle.job_run.proofs.machine.Machine.step.Goals as goal
 
@@ -103,3 +104,55 @@ returns-clause-on_store g c = λ spot.
           (told_now (f.holds c.advance-next.new.fetcher) (f.fault_count c.advance-next.new.fetcher) (f.fetches c.advance-next.new.fetcher) (f.watch c.advance-next.new.fetcher))
           c.replace-state.ensures.value c.settle_in.ensures spot all.2,
     )
+
+pub returns-then-is_over-clause-moves : goal.returns-then-is_over-clause-moves
+returns-then-is_over-clause-moves g c =
+    let j = c.args.self.now in
+    let f = g.F.Fetcher in
+    let told = told_now (f.holds c.args.fetcher.now) (f.fault_count c.args.fetcher.now) (f.fetches c.args.fetcher.now) (f.watch c.args.fetcher.now) in
+    let now = told_now (f.holds c.advance-next.new.fetcher) (f.fault_count c.advance-next.new.fetcher) (f.fetches c.advance-next.new.fetcher) (f.watch c.advance-next.new.fetcher) in
+    let done = c.advance-next.ensures in
+    (stages_move (task_path j.card.task) (is_some j.loan) j.card (goal_tree j.goal.value) j.loan c.advance-next.new.loan j.state c.replace-state.result c.advance-next.result
+    c.settle_in.new.place told now c.replace-state.ensures.value c.settle_in.ensures c.requires.job.stands (done.stands (task_path j.card.task) (goal_tree j.goal.value))
+    (λ spot. let all = done.on_part spot in (all.0, all.1, ap (λ x. told_now (f.holds x) (f.fault_count x) (f.fetches x) (f.watch x)) all.2))
+    (λ spot. let all = done.on_loan spot in (all.0, all.1, ap (λ x. told_now (f.holds x) (f.fault_count x) (f.fetches x) (f.watch x)) all.2))
+    done.on_store done.holds done.asks done.from).0
+
+pub returns-then-is_over-clause-causes : goal.returns-then-is_over-clause-causes
+returns-then-is_over-clause-causes g c =
+    let j = c.args.self.now in
+    let f = g.F.Fetcher in
+    let told = told_now (f.holds c.args.fetcher.now) (f.fault_count c.args.fetcher.now) (f.fetches c.args.fetcher.now) (f.watch c.args.fetcher.now) in
+    let now = told_now (f.holds c.advance-next.new.fetcher) (f.fault_count c.advance-next.new.fetcher) (f.fetches c.advance-next.new.fetcher) (f.watch c.advance-next.new.fetcher) in
+    let done = c.advance-next.ensures in
+    (stages_move (task_path j.card.task) (is_some j.loan) j.card (goal_tree j.goal.value) j.loan c.advance-next.new.loan j.state c.replace-state.result c.advance-next.result
+    c.settle_in.new.place told now c.replace-state.ensures.value c.settle_in.ensures c.requires.job.stands (done.stands (task_path j.card.task) (goal_tree j.goal.value))
+    (λ spot. let all = done.on_part spot in (all.0, all.1, ap (λ x. told_now (f.holds x) (f.fault_count x) (f.fetches x) (f.watch x)) all.2))
+    (λ spot. let all = done.on_loan spot in (all.0, all.1, ap (λ x. told_now (f.holds x) (f.fault_count x) (f.fetches x) (f.watch x)) all.2))
+    done.on_store done.holds done.asks done.from).1
+
+pub returns-clause-moves : goal.returns-clause-moves
+returns-clause-moves g c =
+    let j = c.args.self.now in
+    let f = g.F.Fetcher in
+    let told = told_now (f.holds c.args.fetcher.now) (f.fault_count c.args.fetcher.now) (f.fetches c.args.fetcher.now) (f.watch c.args.fetcher.now) in
+    let now = told_now (f.holds c.advance-next.new.fetcher) (f.fault_count c.advance-next.new.fetcher) (f.fetches c.advance-next.new.fetcher) (f.watch c.advance-next.new.fetcher) in
+    let done = c.advance-next.ensures in
+    (stages_move (task_path j.card.task) (is_some j.loan) j.card (goal_tree j.goal.value) j.loan c.advance-next.new.loan j.state c.replace-state.result c.advance-next.result
+    c.settle_in.new.place told now c.replace-state.ensures.value c.settle_in.ensures c.requires.job.stands (done.stands (task_path j.card.task) (goal_tree j.goal.value))
+    (λ spot. let all = done.on_part spot in (all.0, all.1, ap (λ x. told_now (f.holds x) (f.fault_count x) (f.fetches x) (f.watch x)) all.2))
+    (λ spot. let all = done.on_loan spot in (all.0, all.1, ap (λ x. told_now (f.holds x) (f.fault_count x) (f.fetches x) (f.watch x)) all.2))
+    done.on_store done.holds done.asks done.from).0
+
+pub returns-clause-causes : goal.returns-clause-causes
+returns-clause-causes g c =
+    let j = c.args.self.now in
+    let f = g.F.Fetcher in
+    let told = told_now (f.holds c.args.fetcher.now) (f.fault_count c.args.fetcher.now) (f.fetches c.args.fetcher.now) (f.watch c.args.fetcher.now) in
+    let now = told_now (f.holds c.advance-next.new.fetcher) (f.fault_count c.advance-next.new.fetcher) (f.fetches c.advance-next.new.fetcher) (f.watch c.advance-next.new.fetcher) in
+    let done = c.advance-next.ensures in
+    (stages_move (task_path j.card.task) (is_some j.loan) j.card (goal_tree j.goal.value) j.loan c.advance-next.new.loan j.state c.replace-state.result c.advance-next.result
+    c.settle_in.new.place told now c.replace-state.ensures.value c.settle_in.ensures c.requires.job.stands (done.stands (task_path j.card.task) (goal_tree j.goal.value))
+    (λ spot. let all = done.on_part spot in (all.0, all.1, ap (λ x. told_now (f.holds x) (f.fault_count x) (f.fetches x) (f.watch x)) all.2))
+    (λ spot. let all = done.on_loan spot in (all.0, all.1, ap (λ x. told_now (f.holds x) (f.fault_count x) (f.fetches x) (f.watch x)) all.2))
+    done.on_store done.holds done.asks done.from).1
