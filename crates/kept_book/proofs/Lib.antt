@@ -1,4 +1,6 @@
 pub mod KeptLemmas
+pub mod LawLemmas
 pub mod ListLemmas
 pub mod MarkLemmas
+pub mod OverLemmas
 pub mod SpotLemmas

@@ -20,7 +20,7 @@ none_left true = refl
 none_left false = refl
 
 -- a test of paths goes through to the entries
-marks_by : (t : List (List ℕ) → Bool) (xs : List (Entry Spot)) → filter (λ (m : Mark). t m.path) (marks_of xs) ≡ marks_of (filter (λ (e : Entry Spot). t e.path) xs)
+pub marks_by : (t : List (List ℕ) → Bool) (xs : List (Entry Spot)) → filter (λ (m : Mark). t m.path) (marks_of xs) ≡ marks_of (filter (λ (e : Entry Spot). t e.path) xs)
 marks_by t xs = flat_filter (told mark_in) (λ (m : Mark). t m.path) (λ (e : Entry Spot). t e.path) (λ e. by e.path e.value) xs
   where
     by : (p : List (List ℕ)) (v : Spot) → filter (λ (m : Mark). t m.path) (mark_in p v) ≡ cond (t p) (mark_in p v) []

@@ -4,6 +4,7 @@ use Rattle.std.specs.List.{list_any}
 use Rattle.std.specs.Ordering.{is_lt}
 use Rattle.mat_path.specs.Names.{overlap, path_cmp, same_names}
 use Rattle.mat_model.specs.Kept.{KeptRow}
+use Rattle.mat_model.specs.declared.answers.Gone.{Gone}
 use Rattle.kept_book.specs.declared.mark.Mark.{Mark}
 
 -- the marks in order of path, and the places that are reserved, in order of path
@@ -59,6 +60,10 @@ is_listed paths path = list_any (is_same path) paths
 
 abbrev pub is_mark_unlisted : List (List (List ℕ)) → Mark → Bool
 is_mark_unlisted paths mark = not (is_listed paths mark.path)
+
+-- the path of a row that a clean lists
+abbrev pub gone_path : Gone → List (List ℕ)
+gone_path one = one.path
 
 -- the marks with one in its place in path order, in the place of the one at its path
 abbrev pub put_mark : Mark → List Mark → List Mark

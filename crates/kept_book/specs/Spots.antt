@@ -1,8 +1,9 @@
 -- The spots of a trie, and the marks and reserved places that they stand for: no contract outside speaks of them.
 use Rattle.std.specs.Prelude.{ℕ, Bool, List, [], ◌∷◌, Option, Some, None}
 use Rattle.std.specs.List.{flat_map}
+use Rattle.std.specs.Option.{is_some}
 use Rattle.path_trie.specs.declared.entry.Entry.{Entry}
-use Rattle.path_trie.specs.Entries.{put, without}
+use Rattle.path_trie.specs.Entries.{put, value_at, without}
 use Rattle.kept_book.specs.declared.mark.Mark.{Mark}
 use Rattle.kept_book.specs.declared.spot.Spot.{Spot}
 use Rattle.kept_book.specs.declared.spot.Spot.TheVariants as spot
@@ -49,6 +50,10 @@ use_in None = None
 use_in (Some (spot.Kept last new)) = Some (last, new)
 use_in (Some spot.Reserved) = None
 use_in (Some (spot.Both last new)) = Some (last, new)
+
+-- whether there is a mark at a path
+abbrev pub is_kept_at : List (Entry Spot) → List (List ℕ) → Bool
+is_kept_at spots path = is_some (use_in (value_at path spots))
 
 -- what stands at a path once a mark does
 abbrev pub with_use : Option Spot → ℕ → Bool → Spot

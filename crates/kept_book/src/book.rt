@@ -1,9 +1,9 @@
-ghost use Rattle.std.specs.Prelude.{◌≡◌, [], true, is_ok, is_some, filter, find, if◌then◌else◌};
+ghost use Rattle.std.specs.Prelude.{◌≡◌, [], true, is_ok, is_some, filter, find, if◌then◌else◌, map, IfOk};
 ghost use Rattle.std.specs.Option.{option_map};
-ghost use Rattle.kept_book.specs.Marks.{is_mark_at, is_mark_elsewhere, is_mark_unlisted, is_other, is_reserved, mark_at, put_mark, put_path, use_of};
+ghost use Rattle.kept_book.specs.Marks.{is_mark_at, is_mark_elsewhere, is_mark_unlisted, is_other, is_reserved, mark_at, overlaps_mark, path_of_mark, put_mark, put_path, use_of};
 
 use crate::spot::{
-    Spot, add, leave, set, use_at, with_place, with_use, without_place, without_use,
+    Spot, add, keep_marked, leave, set, use_at, with_place, with_use, without_place, without_use,
 };
 use mat_path::{Memory, Path};
 use path_trie::Trie;
@@ -43,6 +43,16 @@ impl KeptBook {
     {
         self.spots.is_in_order();
         use_at(&self.spots, path)
+    }
+
+    /// The paths of the marks that overlap a path, in order of path.
+    pub fn overlapping(&self, path: &Path) -> Result<Vec<Path>, Memory>
+        ensures ok { IfOk result (λ paths. paths.items ≡ map path_of_mark (filter (overlaps_mark path.now) self.now.marks)) }
+    {
+        self.spots.is_in_order();
+        let mut paths = self.spots.overlapping(path)?;
+        keep_marked(&self.spots, &mut paths);
+        Ok(paths)
     }
 
     /// Puts a mark at a path, in the place of the one there. For want of memory nothing changes.

@@ -2,8 +2,13 @@
 #![tactic(auto)]
 
 mod book;
+mod laws;
 mod mark;
 mod spot;
 
 pub use book::KeptBook;
+pub use laws::{clear_marks_are_in_step, unlisted_marks_are_in_step};
 pub use mark::Mark;
+
+#[cfg(test)]
+mod tests;

@@ -1,7 +1,7 @@
-ghost use Rattle.std.specs.Prelude.{◌≡◌, is_ok, is_some, true, if◌then◌else◌};
+ghost use Rattle.std.specs.Prelude.{◌≡◌, filter, is_ok, is_some, true, if◌then◌else◌};
 ghost use Rattle.std.specs.Option.{option_copied};
 ghost use Rattle.path_trie.specs.Entries.{put, value_at};
-ghost use Rattle.kept_book.specs.Spots.{both, left_with, use_in, with_place, with_use, without_place, without_use};
+ghost use Rattle.kept_book.specs.Spots.{both, is_kept_at, left_with, use_in, with_place, with_use, without_place, without_use};
 
 use mat_path::{Memory, Path};
 use path_trie::Trie;
@@ -36,6 +36,20 @@ pub(crate) fn use_at(spots: &Trie<Spot>, path: &Path) -> Option<(u64, bool)>
         Some(Spot::Both { last, new }) => Some((*last, *new)),
         None => None,
     }
+}
+
+// Whether there is a mark at a path.
+fn is_kept_at(spots: &Trie<Spot>, path: &Path) -> bool
+    ensures { result ≡ is_kept_at spots.now path.now }
+{
+    use_at(spots, path).is_some()
+}
+
+// The paths at which there is a mark, of some.
+pub(crate) fn keep_marked(spots: &Trie<Spot>, paths: &mut Vec<Path>)
+    ensures { paths.new.items ≡ filter (is_kept_at spots.now) paths.old.items }
+{
+    paths.retain(|path| is_kept_at(spots, path));
 }
 
 // What stands at a path once a place is reserved.

@@ -1,0 +1,15 @@
+//! Laws that tie marks to the stored rows of the model.
+ghost use Rattle.std.specs.Prelude.{◌≡◌, ℕ, List, filter, map};
+ghost use Rattle.mat_model.specs.Kept.{KeptRow, is_kept_clear, is_unlisted};
+ghost use Rattle.mat_model.specs.declared.answers.Gone.{Gone};
+ghost use Rattle.kept_book.specs.Marks.{gone_path, is_clear_mark, is_mark_unlisted, mark_of};
+
+/// The marks of the rows that don't overlap a path are those of all rows that don't overlap it. It does nothing.
+pub fn clear_marks_are_in_step()
+    ensures { (path : List (List ℕ)) (kept : List KeptRow) → map mark_of (filter (is_kept_clear path) kept) ≡ filter (is_clear_mark path) (map mark_of kept) }
+{}
+
+/// The marks of the rows that a clean doesn't list are those of all rows at none of the paths that it lists. It does nothing.
+pub fn unlisted_marks_are_in_step()
+    ensures { (gone : List Gone) (kept : List KeptRow) → map mark_of (filter (is_unlisted gone) kept) ≡ filter (is_mark_unlisted (map gone_path gone)) (map mark_of kept) }
+{}
