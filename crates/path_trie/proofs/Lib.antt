@@ -1,5 +1,6 @@
 pub mod Around
 pub mod Below
+pub mod Beyond
 pub mod Changed
 pub mod Edits
 pub mod Halves

@@ -2,7 +2,7 @@
 use Rattle.mat_path.proofs.Overlaps.{apart_of_prefixes}
 use Rattle.mat_path.proofs.PathLemmas.{prefix-refl}
 use Rattle.mat_path.proofs.SameNames.{same_names-eq}
-use Rattle.std.proofs.Common.{◌≡◌, ℕ, Bool, true, false, not, cond, ◌&&◌, ◌||◌, List, [], ◌∷◌, ◌++◌, map, refl, ◌∙◌, sym, ap}
+use Rattle.std.proofs.Common.{◌≡◌, ℕ, Bool, true, false, not, cond, ◌||◌, List, [], ◌∷◌, ◌++◌, map, refl, ◌∙◌, sym, ap}
 use Rattle.std.proofs.lemmas.Bool.{both_ways}
 use Rattle.std.proofs.lemmas.List.Folds.{find-append, list_any-append}
 use Rattle.std.specs.Cmp.{first_so, second_so}

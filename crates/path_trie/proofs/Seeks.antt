@@ -14,20 +14,19 @@ use Rattle.mat_path.proofs.SameNames.{same_name-refl}
 use Rattle.path_trie.specs.declared.entry.Entry.{Entry}
 use Rattle.path_trie.specs.declared.node.Node.{Node, out-Node}
 use Rattle.path_trie.specs.declared.node.Edge.{Edge, out-Edge}
-use Rattle.path_trie.specs.Entries.{is_above, is_behind, is_high, is_under, value_of}
+use Rattle.path_trie.specs.Entries.{is_above, is_high, is_under, value_of}
 use Rattle.path_trie.specs.Nodes.{own, put_in, has_some, are_in_order, are_well, below_node, below_edge, below_all, comes_before, comes_behind, edge_name, is_well_edge}
 use Rattle.path_trie.proofs.Lists.{all_right, find_first, first_of}
 use Rattle.path_trie.proofs.Order.{asc_right}
 use Rattle.path_trie.proofs.Told.{below_edge_out, below_node_out}
 use Rattle.path_trie.proofs.Around.{alike_below, test_around, test_between}
-use Rattle.path_trie.proofs.Below.{behind_is, behind_not, behind_same}
 use Rattle.path_trie.proofs.Halves.{back_is, front_is}
-use Rattle.path_trie.proofs.Kept.{all_behind, around, in_order, name_is}
+use Rattle.path_trie.proofs.Kept.{around, in_order, name_is}
 use Rattle.path_trie.proofs.WalkLemmas.{above_other, above_same, test_found, test_none}
 
 -- ---- the first of a list
 
-first_is : {X : Type 0} (xs : List X) → slice_get xs 0 ≡ first_of xs
+pub first_is : {X : Type 0} (xs : List X) → slice_get xs 0 ≡ first_of xs
 first_is [] = refl
 first_is (x ∷ xs) = refl
 
@@ -72,74 +71,64 @@ first_child {T} (f ∷ es) e h is some =
 
 -- ---- what is behind some names
 
-behind_past : {T : Type 0} (v : Option T) (name : List ℕ) (more : List (List ℕ)) (xs : List (Entry T)) → filter (is_behind (name ∷ more)) (own v ++ xs) ≡ filter (is_behind (name ∷ more)) xs
-behind_past None name more xs = refl
-behind_past (Some v) name more xs = refl
-
-behind_here : {T : Type 0} (v : Option T) (es : List (Edge T)) → filter (is_behind []) (own v ++ below_all es) ≡ below_all es
-behind_here None es = all_behind es
-behind_here (Some v) es = all_behind es
+-- a test of what comes behind some names: all that comes behind them, or only what isn't below them
+pub record IsBeyond {T : Type 0} (beyond : List (List ℕ) → Entry T → Bool) : Type 0 where
+  pub own : (v : Option T) (name : List ℕ) (more : List (List ℕ)) (xs : List (Entry T)) → filter (beyond (name ∷ more)) (own v ++ xs) ≡ filter (beyond (name ∷ more)) xs
+  pub front : (name : List ℕ) (more : List (List ℕ)) (n : List ℕ) (x : Entry T) → comes_before name n ≡ true → beyond (name ∷ more) (put_in n x) ≡ false
+  pub back : (name : List ℕ) (more : List (List ℕ)) (n : List ℕ) (x : Entry T) → comes_behind name n ≡ true → beyond (name ∷ more) (put_in n x) ≡ true
+  pub same : (name : List ℕ) (more : List (List ℕ)) (x : Entry T) → beyond (name ∷ more) (put_in name x) ≡ beyond more x
 
 -- the entries behind them below a node, by those behind them below its children
-behind_below : {T : Type 0} (n : Node T) (es : List (Edge T)) (names : List (List ℕ)) (name : List ℕ) (more : List (List ℕ)) (all : List (Entry T))
-    → es ≡ (out-Node T n).edges.items → names ≡ name ∷ more → filter (is_behind (name ∷ more)) (below_all es) ≡ all
-    → option_map value_of (first_of all) ≡ option_map value_of (find (is_behind names) (below_node n))
-behind_below {T} n es names name more all same split e =
+behind_below : {T : Type 0} (beyond : List (List ℕ) → Entry T → Bool) (law : IsBeyond beyond) (n : Node T) (es : List (Edge T)) (names : List (List ℕ)) (name : List ℕ) (more : List (List ℕ)) (all : List (Entry T))
+    → es ≡ (out-Node T n).edges.items → names ≡ name ∷ more → filter (beyond (name ∷ more)) (below_all es) ≡ all
+    → option_map value_of (first_of all) ≡ option_map value_of (find (beyond names) (below_node n))
+behind_below {T} beyond law n es names name more all same split e =
     ap (λ t. option_map value_of (first_of t))
-    (sym (ap (λ p. filter (is_behind p) (below_node n)) split ∙ ap (filter (is_behind (name ∷ more))) (below_node_out n)
-    ∙ behind_past (out-Node T n).value name more (below_all (out-Node T n).edges.items)
-    ∙ ap (λ t. filter (is_behind (name ∷ more)) (below_all t)) (sym same) ∙ e))
-    ∙ ap (option_map value_of) (sym (find_first (is_behind names) (below_node n)))
+    (sym (ap (λ p. filter (beyond p) (below_node n)) split ∙ ap (filter (beyond (name ∷ more))) (below_node_out n)
+    ∙ law.own (out-Node T n).value name more (below_all (out-Node T n).edges.items)
+    ∙ ap (λ t. filter (beyond (name ∷ more)) (below_all t)) (sym same) ∙ e))
+    ∙ ap (option_map value_of) (sym (find_first (beyond names) (below_node n)))
 
-behind_found : {T : Type 0} (es : List (Edge T)) (name : List ℕ) (more : List (List ℕ)) (k : ℕ) (e : Edge T) → are_well es ≡ true → k < length es
+behind_found : {T : Type 0} (beyond : List (List ℕ) → Entry T → Bool) (law : IsBeyond beyond) (es : List (Edge T)) (name : List ℕ) (more : List (List ℕ)) (k : ℕ) (e : Edge T) → are_well es ≡ true → k < length es
     → get_or (map edge_name es) k name ≡ name → e ≡ get_or es k e
-    → filter (is_behind (name ∷ more)) (below_all es) ≡ map (put_in (edge_name e)) (filter (is_behind more) (below_node (out-Edge T e).node)) ++ below_all (drop (suc k) es)
-behind_found es name more k e h l found is =
-    ap (λ t. filter (is_behind (name ∷ more)) (below_all t)) (around es k e l is)
-    ∙ test_around (comes_before name) (comes_behind name) (is_behind (name ∷ more)) (is_behind more) false true (take k es) (drop (suc k) es) e
-    (λ n x a. behind_not name more n x a) (λ n x a. behind_is name more n x a)
-    (λ x. ap (λ n. is_behind (name ∷ more) (put_in n x)) (name_is es k e name l is found) ∙ behind_same name more x)
+    → filter (beyond (name ∷ more)) (below_all es) ≡ map (put_in (edge_name e)) (filter (beyond more) (below_node (out-Edge T e).node)) ++ below_all (drop (suc k) es)
+behind_found beyond law es name more k e h l found is =
+    ap (λ t. filter (beyond (name ∷ more)) (below_all t)) (around es k e l is)
+    ∙ test_around (comes_before name) (comes_behind name) (beyond (name ∷ more)) (beyond more) false true (take k es) (drop (suc k) es) e
+    (λ n x a. law.front name more n x a) (λ n x a. law.back name more n x a)
+    (λ x. ap (λ n. beyond (name ∷ more) (put_in n x)) (name_is es k e name l is found) ∙ law.same name more x)
     (front_is name es k (in_order es h) l found) (back_is name es k (in_order es h) l found)
 
-pub behind_some : {T : Type 0} (n : Node T) (es : List (Edge T)) (names : List (List ℕ)) (name : List ℕ) (more : List (List ℕ)) (k : ℕ) (e : Edge T) (v : T)
+pub behind_some : {T : Type 0} (beyond : List (List ℕ) → Entry T → Bool) (law : IsBeyond beyond) (n : Node T) (es : List (Edge T)) (names : List (List ℕ)) (name : List ℕ) (more : List (List ℕ)) (k : ℕ) (e : Edge T) (v : T)
     → es ≡ (out-Node T n).edges.items → names ≡ name ∷ more → are_well es ≡ true → k < length es → get_or (map edge_name es) k name ≡ name → e ≡ get_or es k e
-    → Some v ≡ option_map value_of (find (is_behind more) (below_node (out-Edge T e).node)) → Some v ≡ option_map value_of (find (is_behind names) (below_node n))
-behind_some {T} n es names name more k e v same split h l found is f =
-    front_found (edge_name e) v (filter (is_behind more) (below_node (out-Edge T e).node)) (below_all (drop (suc k) es))
-    (f ∙ ap (option_map value_of) (find_first (is_behind more) (below_node (out-Edge T e).node)))
-    ∙ behind_below n es names name more _ same split (behind_found es name more k e h l found is)
+    → Some v ≡ option_map value_of (find (beyond more) (below_node (out-Edge T e).node)) → Some v ≡ option_map value_of (find (beyond names) (below_node n))
+behind_some {T} beyond law n es names name more k e v same split h l found is f =
+    front_found (edge_name e) v (filter (beyond more) (below_node (out-Edge T e).node)) (below_all (drop (suc k) es))
+    (f ∙ ap (option_map value_of) (find_first (beyond more) (below_node (out-Edge T e).node)))
+    ∙ behind_below beyond law n es names name more _ same split (behind_found beyond law es name more k e h l found is)
 
-pub behind_next : {T : Type 0} (n : Node T) (es : List (Edge T)) (names : List (List ℕ)) (name : List ℕ) (more : List (List ℕ)) (k : ℕ) (e : Edge T) (rest : List (Edge T))
+pub behind_next : {T : Type 0} (beyond : List (List ℕ) → Entry T → Bool) (law : IsBeyond beyond) (n : Node T) (es : List (Edge T)) (names : List (List ℕ)) (name : List ℕ) (more : List (List ℕ)) (k : ℕ) (e : Edge T) (rest : List (Edge T))
     → es ≡ (out-Node T n).edges.items → names ≡ name ∷ more → are_well es ≡ true → k < length es → get_or (map edge_name es) k name ≡ name → e ≡ get_or es k e
-    → None ≡ option_map value_of (find (is_behind more) (below_node (out-Edge T e).node)) → rest ≡ drop (suc k) es
-    → option_map value_of (slice_get (below_all rest) 0) ≡ option_map value_of (find (is_behind names) (below_node n))
-behind_next {T} n es names name more k e rest same split h l found is f r =
+    → None ≡ option_map value_of (find (beyond more) (below_node (out-Edge T e).node)) → rest ≡ drop (suc k) es
+    → option_map value_of (slice_get (below_all rest) 0) ≡ option_map value_of (find (beyond names) (below_node n))
+behind_next {T} beyond law n es names name more k e rest same split h l found is f r =
     ap (λ t. option_map value_of (slice_get (below_all t) 0)) r
     ∙ ap (option_map value_of) (first_is (below_all (drop (suc k) es))
-    ∙ front_none (edge_name e) (filter (is_behind more) (below_node (out-Edge T e).node)) (below_all (drop (suc k) es))
-    (f ∙ ap (option_map value_of) (find_first (is_behind more) (below_node (out-Edge T e).node))))
-    ∙ behind_below n es names name more _ same split (behind_found es name more k e h l found is)
+    ∙ front_none (edge_name e) (filter (beyond more) (below_node (out-Edge T e).node)) (below_all (drop (suc k) es))
+    (f ∙ ap (option_map value_of) (find_first (beyond more) (below_node (out-Edge T e).node))))
+    ∙ behind_below beyond law n es names name more _ same split (behind_found beyond law es name more k e h l found is)
 
-pub behind_gap : {T : Type 0} (n : Node T) (es : List (Edge T)) (names : List (List ℕ)) (name : List ℕ) (more : List (List ℕ)) (k : ℕ) (rest : List (Edge T))
+pub behind_gap : {T : Type 0} (beyond : List (List ℕ) → Entry T → Bool) (law : IsBeyond beyond) (n : Node T) (es : List (Edge T)) (names : List (List ℕ)) (name : List ℕ) (more : List (List ℕ)) (k : ℕ) (rest : List (Edge T))
     → es ≡ (out-Node T n).edges.items → names ≡ name ∷ more
     → list_all (comes_before name) (map edge_name (take k es)) ≡ true → list_all (comes_behind name) (map edge_name (drop k es)) ≡ true → rest ≡ drop k es
-    → option_map value_of (slice_get (below_all rest) 0) ≡ option_map value_of (find (is_behind names) (below_node n))
-behind_gap n es names name more k rest same split front back r =
+    → option_map value_of (slice_get (below_all rest) 0) ≡ option_map value_of (find (beyond names) (below_node n))
+behind_gap beyond law n es names name more k rest same split front back r =
     ap (λ t. option_map value_of (slice_get (below_all t) 0)) r
     ∙ ap (option_map value_of) (first_is (below_all (drop k es)))
-    ∙ behind_below n es names name more _ same split
-    (ap (λ t. filter (is_behind (name ∷ more)) (below_all t)) (sym (take-append-drop k es))
-    ∙ test_between (comes_before name) (comes_behind name) (is_behind (name ∷ more)) false true (take k es) (drop k es)
-    (λ n x a. behind_not name more n x a) (λ n x a. behind_is name more n x a) front back)
-
-pub behind_root : {T : Type 0} (n : Node T) (es : List (Edge T)) (names : List (List ℕ)) → es ≡ (out-Node T n).edges.items → names ≡ []
-    → option_map value_of (slice_get (below_all es) 0) ≡ option_map value_of (find (is_behind names) (below_node n))
-behind_root {T} n es names same split =
-    ap (option_map value_of)
-    (first_is (below_all es)
-    ∙ sym (ap (λ p. find (is_behind p) (below_node n)) split ∙ find_first (is_behind []) (below_node n)
-    ∙ ap (λ t. first_of (filter (is_behind []) t)) (below_node_out n)
-    ∙ ap first_of (behind_here (out-Node T n).value (out-Node T n).edges.items ∙ ap below_all (sym same))))
+    ∙ behind_below beyond law n es names name more _ same split
+    (ap (λ t. filter (beyond (name ∷ more)) (below_all t)) (sym (take-append-drop k es))
+    ∙ test_between (comes_before name) (comes_behind name) (beyond (name ∷ more)) false true (take k es) (drop k es)
+    (λ n x a. law.front name more n x a) (λ n x a. law.back name more n x a) front back)
 
 -- ---- at prefixes of at least so many names
 

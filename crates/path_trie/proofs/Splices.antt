@@ -55,7 +55,7 @@ none_less : (p : List (List ℕ)) → is_lt (path_cmp p []) ≡ false
 none_less [] = refl
 none_less (n ∷ p) = refl
 
-none_past : {T : Type 0} (x : Entry T) → is_past [] x ≡ false
+pub none_past : {T : Type 0} (x : Entry T) → is_past [] x ≡ false
 none_past x = by (is_behind [] x)
   where
     by : (b : Bool) → (b && false) ≡ false
@@ -97,14 +97,14 @@ edges_under {T} n names name more k e told =
 
 -- ---- among children
 
-past_is : {T : Type 0} (name : List ℕ) (more : List (List ℕ)) (n : List ℕ) (x : Entry T) → comes_behind name n ≡ true → is_past (name ∷ more) (put_in n x) ≡ true
+pub past_is : {T : Type 0} (name : List ℕ) (more : List (List ℕ)) (n : List ℕ) (x : Entry T) → comes_behind name n ≡ true → is_past (name ∷ more) (put_in n x) ≡ true
 past_is name more n x h =
     ap (λ b. b && not (is_under (name ∷ more) (put_in n x))) (behind_is name more n x h) ∙ ap not (under_other name more n x (behind_other name n h))
 
-past_not : {T : Type 0} (name : List ℕ) (more : List (List ℕ)) (n : List ℕ) (x : Entry T) → comes_before name n ≡ true → is_past (name ∷ more) (put_in n x) ≡ false
+pub past_not : {T : Type 0} (name : List ℕ) (more : List (List ℕ)) (n : List ℕ) (x : Entry T) → comes_before name n ≡ true → is_past (name ∷ more) (put_in n x) ≡ false
 past_not name more n x h = ap (λ b. b && not (is_under (name ∷ more) (put_in n x))) (behind_not name more n x h)
 
-past_same : {T : Type 0} (name : List ℕ) (more : List (List ℕ)) (x : Entry T) → is_past (name ∷ more) (put_in name x) ≡ is_past more x
+pub past_same : {T : Type 0} (name : List ℕ) (more : List (List ℕ)) (x : Entry T) → is_past (name ∷ more) (put_in name x) ≡ is_past more x
 past_same name more x =
     ap (λ b. b && not (is_under (name ∷ more) (put_in name x))) (behind_same name more x) ∙ ap (λ b. is_behind more x && not b) (under_same name more x)
 

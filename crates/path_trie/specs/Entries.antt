@@ -38,6 +38,11 @@ is_outside path entry = not (is_under path entry)
 abbrev pub is_past : {V : Type 0} → List (List ℕ) → Entry V → Bool
 is_past path entry = is_behind path entry && not (is_under path entry)
 
+-- whether an entry comes behind a path, or behind all that is at and below it too
+abbrev pub is_beyond : {V : Type 0} → Bool → List (List ℕ) → Entry V → Bool
+is_beyond false path entry = is_behind path entry
+is_beyond true path entry = is_past path entry
+
 -- whether an entry is at or below a path, and comes behind another path
 abbrev pub is_next_under : {V : Type 0} → List (List ℕ) → List (List ℕ) → Entry V → Bool
 is_next_under top last entry = is_under top entry && is_behind last entry

@@ -2,7 +2,7 @@
 ghost use Rattle.std.specs.Prelude.{◌≡◌, true, nat_eq, None, if◌then◌else◌};
 ghost use Rattle.std.specs.List.{find, slice_get};
 ghost use Rattle.std.specs.Option.{option_copied, option_map};
-ghost use Rattle.path_trie.specs.Entries.{is_behind, is_high, value_of};
+ghost use Rattle.path_trie.specs.Entries.{is_beyond, is_high, value_of};
 ghost use Rattle.path_trie.specs.Nodes.{are_well, below_all, below_node, is_well};
 
 use crate::find::place_of;
@@ -21,15 +21,26 @@ fn first_among<'a, T>(edges: &'a [Edge<T>]) -> Option<&'a T>
     }
 }
 
-// The first value behind these names below a node.
-pub(crate) fn behind_at<'a, T>(node: &'a Node<T>, names: &[Name]) -> Option<&'a T>
+// The same, unless none is wanted.
+fn first_unless<'a, T>(edges: &'a [Edge<T>], past: bool) -> Option<&'a T>
+    requires { are_well edges.now ≡ true }
+    ensures { option_copied result ≡ option_map value_of (if past then None else slice_get (below_all edges.now) 0) }
+{
+    if past {
+        return None;
+    }
+    first_among(edges)
+}
+
+// The first value behind these names below a node, or past all that is at and below them.
+pub(crate) fn behind_at<'a, T>(node: &'a Node<T>, names: &[Name], past: bool) -> Option<&'a T>
     requires { is_well node.now ≡ true }
-    ensures { option_copied result ≡ option_map value_of (find (is_behind names.now) (below_node node.now)) }
+    ensures { option_copied result ≡ option_map value_of (find (is_beyond past names.now) (below_node node.now)) }
 {
     match names {
-        [] => first_among(&node.edges),
+        [] => first_unless(&node.edges, past),
         [name, more @ ..] => match place_of(&node.edges, name) {
-            Ok(place) => match behind_at(&node.edges[place].node, more) {
+            Ok(place) => match behind_at(&node.edges[place].node, more, past) {
                 Some(value) => Some(value),
                 None => first_among(&node.edges[place + 1..]),
             },

@@ -125,6 +125,11 @@ fn agree_on_order(trie: &Trie<u64>, list: &[(Path, u64)], path: &Path) -> bool {
         && value_of(trie.first_behind(path)) == listed(list.iter().find(|entry| entry.0 > *path))
         && value_of(trie.first_under(path))
             == listed(list.iter().find(|entry| path.is_prefix(&entry.0)))
+        && value_of(trie.first_past(path))
+            == listed(
+                list.iter()
+                    .find(|entry| entry.0 > *path && !path.is_prefix(&entry.0)),
+            )
 }
 
 /// Puts another value at a path where one stands in a list, and whether the trie did so too.

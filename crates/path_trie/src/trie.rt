@@ -4,7 +4,7 @@ ghost use Rattle.std.specs.Option.{option_copied, option_map};
 ghost use Rattle.std.specs.Result.{result_ok};
 ghost use Rattle.path_trie.specs.Edits.{edited_entry};
 ghost use Rattle.path_trie.specs.Roots.{kept_if, value_put};
-ghost use Rattle.path_trie.specs.Entries.{ascends, both, cover_of, cut_at, is_behind, is_from, is_high, is_next_under, is_outside, is_under, overlaps, path_of, put, spliced, value_at, value_of, without, without_first};
+ghost use Rattle.path_trie.specs.Entries.{ascends, both, cover_of, cut_at, is_behind, is_from, is_high, is_next_under, is_outside, is_past, is_under, overlaps, path_of, put, spliced, value_at, value_of, without, without_first};
 
 use crate::change::{put_at, take_at};
 use crate::edit::{Edit, edit_at};
@@ -214,6 +214,14 @@ impl<V: Drop> Trie<V> {
         parts(self.entry_behind(path))
     }
 
+    /// The first entry, in order of path, past all that is at and below a path: with the path of the last part that was looked at it
+    /// goes on to the next one.
+    pub fn first_past(&self, path: &Path) -> Option<(&Path, &V)>
+        ensures { option_map (λ seen. (seen.0.now, seen.1.now)) result ≡ option_map both (find (is_past path.now) self.now) }
+    {
+        parts(self.entry_past(path))
+    }
+
     /// The first entry, in order of path, at or below a path.
     pub fn first_under(&self, path: &Path) -> Option<(&Path, &V)>
         ensures { option_map (λ seen. (seen.0.now, seen.1.now)) result ≡ option_map both (find (is_under path.now) self.now) }
@@ -259,7 +267,14 @@ impl<V: Drop> Trie<V> {
     fn entry_behind(&self, path: &Path) -> Option<&Entry<V>>
         ensures { option_copied result ≡ find (is_behind path.now) self.now }
     {
-        behind_at(&self.root, path.names())
+        behind_at(&self.root, path.names(), false)
+    }
+
+    // The first entry past all that is at and below a path.
+    fn entry_past(&self, path: &Path) -> Option<&Entry<V>>
+        ensures { option_copied result ≡ find (is_past path.now) self.now }
+    {
+        behind_at(&self.root, path.names(), true)
     }
 
     // The first entry that isn't before a path.
