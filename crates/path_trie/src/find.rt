@@ -1,5 +1,5 @@
 // What stands at some names below a node.
-ghost use Rattle.std.specs.Prelude.{◌≡◌, ◌<◌, ◌≤◌, true, false, length, map, drop, take, slice_index_or, IfErr, IfOk};
+ghost use Rattle.std.specs.Prelude.{◌≡◌, ◌<◌, ◌≤◌, ◌++◌, true, false, length, map, drop, take, slice_index_or, IfErr, IfOk};
 ghost use Rattle.std.specs.List.{filter, list_all};
 ghost use Rattle.std.specs.Option.{option_copied};
 ghost use Rattle.path_trie.specs.Entries.{is_under, value_at};
@@ -29,6 +29,20 @@ pub(crate) fn get_at<'a, T>(node: &'a Node<T>, names: &[Name]) -> Option<&'a T>
         [] => node.value.as_ref(),
         [name, more @ ..] => match place_of(&node.edges, name) {
             Ok(place) => get_at(&node.edges[place].node, more),
+            Err(_) => None,
+        },
+    }
+}
+
+// The value at these names and then more below a node, if one stands there.
+pub(crate) fn get_below<'a, T>(node: &'a Node<T>, names: &[Name], more: &[Name]) -> Option<&'a T>
+    requires { is_well node.now ≡ true }
+    ensures { option_copied result ≡ value_at (names.now ++ more.now) (below_node node.now) }
+{
+    match names {
+        [] => get_at(node, more),
+        [name, rest @ ..] => match place_of(&node.edges, name) {
+            Ok(place) => get_below(&node.edges[place].node, rest, more),
             Err(_) => None,
         },
     }

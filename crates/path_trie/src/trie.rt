@@ -1,16 +1,16 @@
-ghost use Rattle.std.specs.Prelude.{◌≡◌, ◌+◌, ◌<◌, ◌≤◌, ◌^◌, ◌&&◌, [], true, is_ok, length, map, nat_eq, if◌then◌else◌, IfErr, IfOk, IfSome};
+ghost use Rattle.std.specs.Prelude.{◌≡◌, ◌+◌, ◌++◌, ◌<◌, ◌≤◌, ◌^◌, ◌&&◌, [], true, is_ok, length, map, nat_eq, if◌then◌else◌, IfErr, IfOk, IfSome};
 ghost use Rattle.std.specs.List.{filter, find, list_any, slice_get};
 ghost use Rattle.std.specs.Option.{option_copied, option_map};
 ghost use Rattle.std.specs.Result.{result_ok};
 ghost use Rattle.path_trie.specs.Edits.{edited_entry};
 ghost use Rattle.path_trie.specs.Roots.{kept_if, value_put};
-ghost use Rattle.path_trie.specs.Entries.{ascends, both, cover_of, cut_at, is_behind, is_from, is_high, is_next_under, is_outside, is_past, is_under, overlaps, path_of, put, spliced, value_at, value_of, without, without_first};
+ghost use Rattle.path_trie.specs.Entries.{ascends, both, cover_of, cut_at, is_at, is_behind, is_from, is_high, is_next_under, is_outside, is_past, is_under, overlaps, path_of, put, spliced, value_at, value_of, without, without_first};
 
 use crate::change::{put_at, take_at};
 use crate::edit::{Edit, edit_at};
 use crate::entry::Entry;
 use crate::exchange::exchange_at;
-use crate::find::{count_at, get_at};
+use crate::find::{count_at, get_at, get_below};
 use crate::node::Node;
 use crate::pick::value_at;
 use crate::pull::pull_at;
@@ -18,7 +18,7 @@ use crate::seek::{behind_at, high_at};
 use crate::steps::Steps;
 use crate::swap::swap_at;
 use crate::walk::{cover_at, gather_at, overlaps_at};
-use mat_path::{Memory, Path};
+use mat_path::{Memory, Name, Path};
 use std::alloc::Global;
 use std::marker::Model;
 use std::sync::ledger::Ledger;
@@ -191,6 +191,13 @@ impl<V: Drop> Trie<V> {
             Some(entry) => Some(&entry.value),
             None => None,
         }
+    }
+
+    /// The entry at the path of some names below another one, if one stands there. Takes no memory.
+    pub fn entry_below(&self, top: &Path, names: &[Name]) -> Option<(&Path, &V)>
+        ensures { option_map (λ seen. (seen.0.now, seen.1.now)) result ≡ option_map both (find (is_at (top.now ++ names.now)) self.now) }
+    {
+        parts(get_below(&self.root, top.names(), names))
     }
 
     /// The k-th entry in order of path. It costs the children of each node on the way to it. Takes no memory, as the calls below.
