@@ -1,8 +1,8 @@
 -- Kept rows in order, and the opening that is made of them.
 use Rattle.std.proofs.Common.{◌||◌, append-nil, if◌then◌else◌, ◌≡◌, ◌≤◌, ◌<◌, ◌+◌, ◌==◌, ℕ, Bool, true, false, not, ◌&&◌, List, [], ◌∷◌, ◌++◌, map, filter, length, drop, take, get_or, Option, None, Some, cond, refl, rules, suc, sym, ap, ap₂, subst, ◌∙◌, inl, inr, arith}
-use Rattle.std.proofs.lemmas.Bool.{and_parts, and_from, false_from_ne_true, or_from}
+use Rattle.std.proofs.lemmas.Bool.{and_parts, and_from, both_ways, false_from_ne_true, not-true, or_from}
 use Rattle.std.proofs.lemmas.List.Elements.{All-cons, All-nil}
-use Rattle.std.specs.List.{All, AllByRecursion, list_all}
+use Rattle.std.specs.List.{All, AllByRecursion, Contains, list_all}
 use Rattle.std.specs.List.Sorted.{IsStrictlySortedBy}
 use Rattle.std.specs.Map.{keys_of}
 use Rattle.std.specs.Ordering.{is_lt}
@@ -11,6 +11,9 @@ use Rattle.std.specs.declared.cmp.Ordering.TheVariants.{Less, Equal}
 use Rattle.mat_path.specs.Covering.{covering}
 use Rattle.mat_path.specs.Names.{is_prefix, overlap, path_cmp, same_names}
 use Rattle.mat_path.proofs.PathLemmas.{before_apart, lt_less, path_cmp_equal, path_cmp_total, path_cmp-refl, prefix_not_greater, prefix_split}
+use Rattle.mat_path.proofs.Elements.{contains_cases}
+use Rattle.mat_path.proofs.Overlaps.{overlap-sym}
+use Rattle.model_laws.proofs.Elements.{contains_all}
 use Rattle.mat_path.proofs.SameNames.{same_names-refl}
 use Rattle.mat_tree.specs.Trees.{ascends_by, is_after_by}
 use Rattle.mat_model.specs.declared.book.Row.{Row}
@@ -339,3 +342,85 @@ is_of kept opening made = record {
 pub count_made : (most : ℕ) (kept : List KeptRow) (opening : Opening) → IsMadeOf kept [] opening.strays opening → length kept ≤ most → count_of opening ≤ most
 count_made most kept opening made few =
     omega (arith, few, ap length made.rows, found_length 0 kept, ap length made.lost)
+
+-- ---- the first pair that overlaps
+
+-- a row is apart from all behind it, where it is apart from its neighbour
+row_apart : (row next : KeptRow) (rest : List KeptRow) → KeptAscend (row ∷ next ∷ rest) → overlap row.path next.path ≡ false →
+    list_all (is_kept_before row) (next ∷ rest) ≡ true
+row_apart row next rest up apart =
+    let mine = and_parts (list_all (is_after_by path_of_kept row.path) (next ∷ rest)) (ascends_by path_of_kept (next ∷ rest)) up in
+    let here = and_parts (is_after_by path_of_kept row.path next) (list_all (is_after_by path_of_kept row.path) rest) mine.0 in
+    let its = and_parts (list_all (is_after_by path_of_kept next.path) rest) (ascends_by path_of_kept rest) mine.1 in
+    and_from (is_kept_before row next) (list_all (is_kept_before row) rest)
+    (and_from (comes_before row.path next.path) (not (overlap row.path next.path)) here.0 (ap not apart))
+    (apart_behind row next rest here.0 apart here.1 its.0)
+
+-- no row of some is before the first one
+none_before : (row : KeptRow) (rest : List KeptRow) (one : KeptRow) → KeptAscend (row ∷ rest) → Contains (row ∷ rest) one →
+    comes_before one.path row.path ≡ true → ⊥
+none_before row rest one up among before =
+    elim (contains_cases row rest one among) [
+      | inl same ↦
+          never_both row.path row.path (lt_less (path_cmp row.path row.path) (itself_before same)) (lt_less (path_cmp row.path row.path) (itself_before same))
+      | inr there ↦
+          never_both row.path one.path
+          (lt_less (path_cmp row.path one.path)
+          (contains_all (is_after_by path_of_kept row.path) rest one
+          (and_parts (list_all (is_after_by path_of_kept row.path) rest) (ascends_by path_of_kept rest) up).0 there))
+          (lt_less (path_cmp one.path row.path) before)
+    ]
+  where
+    itself_before : row ≡ one → comes_before row.path row.path ≡ true
+    itself_before same = subst (λ (r : KeptRow). comes_before r.path row.path ≡ true) (sym same) before
+
+pair_from : (row : KeptRow) (rest : List KeptRow) (pair : List (List ℕ) × List (List ℕ)) (one other : KeptRow) → KeptAscend (row ∷ rest) →
+    overlap_behind row rest ≡ Some pair → Contains (row ∷ rest) one → Contains (row ∷ rest) other → overlap one.path other.path ≡ true →
+    comes_before one.path pair.0 ≡ true → one ≡ other
+pair_from row [] pair one other up h a b meets before = absurd cc
+pair_from row (next ∷ rest) pair one other up h a b meets before =
+    by (overlap row.path next.path) refl h
+    (λ e there here. pair_from next rest pair one other
+    (and_parts (list_all (is_after_by path_of_kept row.path) (next ∷ rest)) (ascends_by path_of_kept (next ∷ rest)) up).1 e there here meets before)
+  where
+    pair_is : (p : List (List ℕ) × List (List ℕ)) → Some p ≡ Some pair → p ≡ pair
+    pair_is p e = ap pair_or e
+      where
+        pair_or : Option (List (List ℕ) × List (List ℕ)) → List (List ℕ) × List (List ℕ)
+        pair_or None = p
+        pair_or (Some q) = q
+
+    clear : overlap row.path next.path ≡ false → (z : KeptRow) → Contains (next ∷ rest) z → overlap row.path z.path ≡ false
+    clear apart z there =
+        not-true (overlap row.path z.path)
+        (and_parts (comes_before row.path z.path) (not (overlap row.path z.path))
+        (contains_all (is_kept_before row) (next ∷ rest) z (row_apart row next rest up apart) there)).1
+
+    by : (t : Bool) → overlap row.path next.path ≡ t → (if t then Some (row.path, next.path) else overlap_behind next rest) ≡ Some pair →
+        (overlap_behind next rest ≡ Some pair → Contains (next ∷ rest) one → Contains (next ∷ rest) other → one ≡ other) → one ≡ other
+    by true touch e more =
+        absurd (none_before row (next ∷ rest) one up a
+        (subst (λ (p : List (List ℕ) × List (List ℕ)). comes_before one.path p.0 ≡ true) (sym (pair_is (row.path, next.path) e)) before))
+    by false apart e more =
+        elim (contains_cases row (next ∷ rest) one a) [
+          | inl same ↦
+              elim (contains_cases row (next ∷ rest) other b) [
+                | inl too ↦ sym same ∙ too
+                | inr there ↦
+                    absurd (both_ways (overlap row.path other.path) (clear apart other there)
+                    (subst (λ (r : KeptRow). overlap r.path other.path ≡ true) (sym same) meets))
+              ]
+          | inr there ↦
+              elim (contains_cases row (next ∷ rest) other b) [
+                | inl too ↦
+                    absurd (both_ways (overlap row.path one.path) (clear apart one there)
+                    (overlap-sym one.path row.path true (subst (λ (r : KeptRow). overlap one.path r.path ≡ true) (sym too) meets)))
+                | inr here ↦ more e there here
+              ]
+        ]
+
+-- no row before the first of the pair overlaps another one
+pub first_pair : (kept : List KeptRow) (pair : List (List ℕ) × List (List ℕ)) (one other : KeptRow) → KeptAscend kept → first_overlap kept ≡ Some pair →
+    Contains kept one → Contains kept other → overlap one.path other.path ≡ true → comes_before one.path pair.0 ≡ true → one ≡ other
+first_pair [] pair one other up h a b meets before = absurd cc
+first_pair (row ∷ rest) pair one other up h a b meets before = pair_from row rest pair one other up h a b meets before

@@ -2,10 +2,12 @@
 #![tactic(auto)]
 
 mod kept;
+mod laws;
 mod opening;
 mod reading;
 mod refusal;
 mod scan;
 
+pub use laws::neighbours_are_enough;
 pub use refusal::ScanRefusal;
 pub use scan::scan_rows;
