@@ -7,6 +7,8 @@ mod opening;
 mod reading;
 mod refusal;
 mod scan;
+#[cfg(test)]
+mod tests;
 
 pub use laws::neighbours_are_enough;
 pub use refusal::ScanRefusal;
