@@ -11,3 +11,6 @@ mod takes;
 pub use book::RowBook;
 pub use laws::{changes_are_in_step, held_is_in_step, rows_are_in_step};
 pub use stock::{Stock, held_of};
+
+#[cfg(test)]
+mod tests;
