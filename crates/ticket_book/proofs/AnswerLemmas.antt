@@ -1,6 +1,6 @@
 -- The rules of a book's tickets, where one comes and where some are answered.
 use Rattle.std.proofs.Common.{◌≡◌, ◌+◌, ◌<◌, ◌≤◌, ℕ, suc, nat_lt, Bool, true, false, not, ◌&&◌, cond, List, [], ◌∷◌, ◌++◌, map, take, get_or, length, length-append, refl, ◌∙◌, sym, ap, subst, arith, count_by}
-use Rattle.std.proofs.lemmas.Bool.{and_from, and_parts}
+use Rattle.std.proofs.lemmas.Bool.{and_from, and_parts, le-leb, leb-true}
 use Rattle.std.proofs.lemmas.List.{length-map, map-append}
 use Rattle.std.proofs.lemmas.List.Elements.{filter-append}
 use Rattle.std.proofs.lemmas.List.Sums.{length-filter, sum_by-append, sum_by-cons}
@@ -10,7 +10,7 @@ use Rattle.mat_model.specs.declared.answers.Answer.{Answer}
 use Rattle.mat_model.specs.declared.book.Ticket.{Ticket}
 use Rattle.mat_model.specs.Books.{are_ascending, number_of}
 use Rattle.mat_model.specs.Tickets.{is_open, with_answer}
-use Rattle.ticket_book.specs.Asked.{AreTickets, Tickets, answer_all, answered_if, has_number, is_due, is_earlier, is_same, was_answered}
+use Rattle.ticket_book.specs.Asked.{AreTickets, Tickets, answer_all, answered_if, has_number, is_due, is_earlier, is_same, was_answered, with_ticket}
 
 -- ---- counting
 
@@ -80,6 +80,18 @@ asked_kept all news answered numbers t are later lies is same = record {
       let count = ap (λ (ts : List Ticket). count_by (was_answered n) ts) is in
       let few = ap (λ (ns : List ℕ). count_by (is_same n) ns) same in omega (arith, one, here, none, sum, before, count, few);
 }
+
+-- those of a number and of lower ones have lower numbers than the next
+earlier_next : (n : ℕ) (ts : List Ticket) (t : Ticket) → list_all (is_earlier n) ts ≡ true → t.number ≡ n → list_all (is_earlier (n + 1)) (ts ++ t ∷ []) ≡ true
+earlier_next n [] t all is = and_from (is_earlier (n + 1) t) true (le-leb (suc t.number) (n + 1) (omega (arith, is))) refl
+earlier_next n (x ∷ ts) t all is =
+    let parts = and_parts (is_earlier n x) (list_all (is_earlier n) ts) all in
+    let less = leb-true (suc x.number) n parts.0 in
+    and_from (is_earlier (n + 1) x) (list_all (is_earlier (n + 1)) (ts ++ t ∷ [])) (le-leb (suc x.number) (n + 1) (omega (arith, less))) (earlier_next n ts t parts.1 is)
+
+pub earlier_asked : (n : ℕ) (old new : Tickets) (t : Ticket) → new ≡ with_ticket t old → list_all (is_earlier n) old.all ≡ true → t.number ≡ n
+    → list_all (is_earlier (n + 1)) new.all ≡ true
+earlier_asked n old new t is all number = ap (λ (tickets : Tickets). list_all (is_earlier (n + 1)) tickets.all) is ∙ earlier_next n old.all t all number
 
 -- ---- some are answered
 
