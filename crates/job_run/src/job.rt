@@ -6,6 +6,7 @@ ghost use Rattle.mat_tree.specs.Trees.{is_placed};
 ghost use Rattle.region_port.specs.States.{rough_region, state_region};
 ghost use Rattle.write_plan.specs.Plans.{plan_of};
 ghost use Rattle.job_run.specs.Done.{counts_fault, ends_task, is_make, leaves_part, task_path};
+ghost use Rattle.job_run.specs.Arming.{ArmsNext};
 ghost use Rattle.job_run.specs.Asking.{asks_of};
 ghost use Rattle.job_run.specs.Moves.{Causes, LoanMoves, Moves, RegionMoves, around, left_by};
 ghost use Rattle.job_run.specs.Orders.{is_right};
@@ -17,7 +18,7 @@ use crate::machine::Machine;
 use fetch_port::Fetcher;
 use mat_model::{Card, Outcome};
 use mat_tree::Tree;
-use region_port::{Part, ReadLoan, Region, Rough};
+use region_port::{MemRegion, Part, ReadLoan, Region, Rough};
 use std::marker::Model;
 use write_plan::{Act, Method};
 
@@ -186,6 +187,24 @@ impl<R: Region> Job<R> {
     {
         let Job { machine } = self;
         machine.abort()
+    }
+}
+
+impl Job<MemRegion> {
+    /// Makes the next device call of `step` fail and change nothing, where it is on the job's part or on the one that is lent; where
+    /// it is the store's, or the job has ended, nothing changes. Takes no memory.
+    pub fn arm(&mut self)
+        ensures card { job_card self.new ≡ job_card self.old }
+        ensures goal { job_goal self.new ≡ job_goal self.old }
+        ensures armed { ArmsNext (is_over self.old) (job_spot self.old) (job_region self.old) (job_region self.new) (job_loan self.old) (job_loan self.new) }
+        ensures failure { job_failure self.new ≡ job_failure self.old }
+        ensures going { is_over self.new ≡ is_over self.old }
+        ensures spot { job_spot self.new ≡ job_spot self.old }
+        ensures calls { calls_left self.new ≡ calls_left self.old }
+        ensures asks { asks_left self.new ≡ asks_left self.old }
+        ensures fetching { job_fetching self.new ≡ job_fetching self.old }
+    {
+        self.machine.arm();
     }
 }
 

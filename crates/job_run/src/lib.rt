@@ -2,6 +2,7 @@
 #![tactic(auto)]
 
 mod acts;
+mod arming;
 mod calls;
 mod ending;
 mod failure;

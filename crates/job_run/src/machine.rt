@@ -8,19 +8,21 @@ ghost use Rattle.write_plan.specs.Plans.{plan_of};
 ghost use Rattle.job_run.specs.Jobs.{IsJob, machine_asks, machine_card, machine_cost, machine_failure, machine_fetching, machine_goal, machine_loan, machine_next, machine_over, machine_region, machine_spot, state_next};
 ghost use Rattle.job_run.specs.Done.{is_make, task_path};
 ghost use Rattle.job_run.specs.States.{HasEnded, failing, region_of};
+ghost use Rattle.job_run.specs.Arming.{ArmsNext};
 ghost use Rattle.job_run.specs.Asking.{asks_of};
 ghost use Rattle.job_run.specs.Moves.{Causes, Moves, around};
 ghost use Rattle.job_run.specs.Orders.{IsLeft, IsMakeable, is_right};
 ghost use Rattle.job_run.specs.Seen.{seen};
 ghost use Rattle.job_run.specs.Steps.{Asks, CallsLoan, CallsRegion, LoanStays, doing_spot, source_spot, spot_next, loan_call, part_call, store_call, told_now};
 
+use crate::arming::arm_stage;
 use crate::job::{Done, Next, Stepped};
 use crate::states::{Doing, Filling, Making, Order, Source, State};
 use crate::stepping::advance;
 use fetch_port::Fetcher;
 use mat_model::{Card, Outcome};
 use mat_tree::Tree;
-use region_port::{Part, ReadLoan, Region, Rough};
+use region_port::{MemRegion, Part, ReadLoan, Region, Rough};
 use std::collections::VecDeque;
 use std::mem;
 use std::snapshot::Snapshot;
@@ -277,5 +279,24 @@ impl<R: Region> Machine<R> {
             state,
         } = self;
         (part_of(state), loan)
+    }
+}
+
+impl Machine<MemRegion> {
+    /// Makes the device call of the next step fail and change nothing, unless it is the store's. Takes no memory.
+    pub(crate) fn arm(&mut self)
+        requires { IsJob self.old }
+        ensures job { IsJob self.new }
+        ensures card { machine_card self.new ≡ machine_card self.old }
+        ensures goal { machine_goal self.new ≡ machine_goal self.old }
+        ensures armed { ArmsNext (machine_over self.old) (machine_spot self.old) (machine_region self.old) (machine_region self.new) (machine_loan self.old) (machine_loan self.new) }
+        ensures failure { machine_failure self.new ≡ machine_failure self.old }
+        ensures going { machine_over self.new ≡ machine_over self.old }
+        ensures spot { machine_spot self.new ≡ machine_spot self.old }
+        ensures calls { machine_cost self.new ≡ machine_cost self.old }
+        ensures asks { machine_asks self.new ≡ machine_asks self.old }
+        ensures fetching { machine_fetching self.new ≡ machine_fetching self.old }
+    {
+        arm_stage(&mut self.state, &mut self.loan);
     }
 }
