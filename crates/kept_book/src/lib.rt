@@ -7,7 +7,10 @@ mod mark;
 mod spot;
 
 pub use book::KeptBook;
-pub use laws::{clear_marks_are_in_step, unlisted_marks_are_in_step};
+pub use laws::{
+    clear_marks_are_in_step, clear_marks_are_left, put_marks_are_in_step,
+    unlisted_marks_are_in_step,
+};
 pub use mark::Mark;
 
 #[cfg(test)]
