@@ -1,0 +1,4 @@
+pub mod EntryLemmas
+pub mod LoanLemmas
+pub mod NumberLemmas
+pub mod ReadLemmas
