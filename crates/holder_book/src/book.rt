@@ -102,8 +102,8 @@ impl HolderBook {
         }
     }
 
-    // Whether a command has a hold on a path. Where nobody has, it costs the path's names.
-    fn has(&self, command: u32, path: &Path) -> bool
+    /// Whether a command has a hold on a path. Where nobody has, it costs the path's names.
+    pub fn has(&self, command: u32, path: &Path) -> bool
         ensures { result ≡ list_any (is_hold command path.now) self.now }
     {
         count_at(&self.counts, path) != 0
