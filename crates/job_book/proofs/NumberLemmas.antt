@@ -1,6 +1,6 @@
 -- A job is found by its number in a list that ascends.
-use Rattle.std.proofs.Common.{◌≡◌, ◌<◌, ◌≤◌, ◌+◌, ℕ, zero, suc, nat_lt, Bool, true, false, not, cond, List, [], ◌∷◌, ◌++◌, map, take, drop, get_or, length, refl, ◌∙◌, sym, ap, arith, Option, Some, None}
-use Rattle.std.proofs.lemmas.Bool.{and_from, and_parts, eqb-true, le-leb, leb-false, leb-true, ne_eqb, not-true}
+use Rattle.std.proofs.Common.{◌≡◌, ◌<◌, ◌≤◌, ◌+◌, ◌-◌, ◌&&◌, slice_get, ℕ, zero, suc, nat_lt, Bool, true, false, not, cond, List, [], ◌∷◌, ◌++◌, map, take, drop, get_or, length, refl, ◌∙◌, sym, ap, arith, Option, Some, None}
+use Rattle.std.proofs.lemmas.Bool.{and_from, and_parts, and_right, eqb-true, le-leb, leb-false, leb-true, ne_eqb, not-true}
 use Rattle.std.specs.List.{filter, find, list_all}
 use Rattle.std.specs.List.Sorted.{IsPartitionedBy}
 use Rattle.mat_model.specs.Books.{are_ascending}
@@ -157,3 +157,38 @@ left_is n rs news k r ascend place left =
 -- in the model's words
 pub jobs_left : (n : ℕ) (rs news : List Running) → news ≡ filter (is_other n) rs → jobs_of news ≡ filter (is_other_job n) (jobs_of rs)
 jobs_left n rs news left = ap jobs_of left ∙ sym (filter_in job_of (is_other_job n) (is_other n) (λ r. refl) rs)
+
+-- ---- the last job
+
+less_get : (m : ℕ) (rs : List Running) (k : ℕ) (x : Running) → list_all (nat_lt m) (map number_of rs) ≡ true → Some x ≡ slice_get rs k → nat_lt m (number_of x) ≡ true
+less_get m [] k x all is = let lost : ◌≡◌ {A = Option Running} (Some x) None = is in absurd cc
+less_get m (r ∷ rs) zero x all is =
+    let same : x ≡ r = cc in ap (λ (y : Running). nat_lt m (number_of y)) same ∙ (and_parts (nat_lt m (number_of r)) (list_all (nat_lt m) (map number_of rs)) all).0
+less_get m (r ∷ rs) (suc k) x all is = less_get m rs k x (and_parts (nat_lt m (number_of r)) (list_all (nat_lt m) (map number_of rs)) all).1 is
+
+later_at : (n : ℕ) (rs : List Running) (k : ℕ) (x : Running) → are_ascending (map number_of rs) ≡ true → suc k ≡ length rs → Some x ≡ slice_get rs k
+    → nat_lt (number_of x) n ≡ list_all (is_earlier n) rs
+later_at n [] k x ascend long is = absurd (omega (arith, long))
+later_at n (r ∷ []) zero x ascend long is =
+    let same : x ≡ r = cc in ap (λ (y : Running). nat_lt (number_of y) n) same ∙ sym (and_true (is_earlier n r))
+  where
+    and_true : (b : Bool) → (b && true) ≡ b
+    and_true true = refl
+    and_true false = refl
+later_at n (r ∷ s ∷ rs) zero x ascend long is = absurd (omega (arith, long))
+later_at n (r ∷ rs) (suc k) x ascend long is =
+    let parts = first_less r rs ascend in
+    by (nat_lt (number_of x) n) refl (less_get (number_of r) rs k x parts.0 is) (later_at n rs k x parts.1 (omega (arith, long)) is)
+  where
+    by : (b : Bool) → nat_lt (number_of x) n ≡ b → nat_lt (number_of r) (number_of x) ≡ true → nat_lt (number_of x) n ≡ list_all (is_earlier n) rs
+        → nat_lt (number_of x) n ≡ (is_earlier n r && list_all (is_earlier n) rs)
+    by true early less more =
+        let low = leb-true (suc (number_of r)) (number_of x) less in
+        let high = leb-true (suc (number_of x)) n early in
+        early ∙ sym (and_from (is_earlier n r) (list_all (is_earlier n) rs) (le-leb (suc (number_of r)) n (omega (arith, low, high))) (sym more ∙ early))
+    by false late less more = late ∙ sym (and_right (is_earlier n r) (list_all (is_earlier n) rs) (sym more ∙ late))
+
+pub later_is : (n : ℕ) (rs : List Running) (x : Running) → are_ascending (map number_of rs) ≡ true → Some x ≡ slice_get rs (length rs - 1)
+    → nat_lt (number_of x) n ≡ list_all (is_earlier n) rs
+later_is n [] x ascend is = let lost : ◌≡◌ {A = Option Running} (Some x) None = is in absurd cc
+later_is n (r ∷ rs) x ascend is = later_at n (r ∷ rs) (length (r ∷ rs) - 1) x ascend (omega arith) is

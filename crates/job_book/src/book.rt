@@ -66,6 +66,16 @@ impl JobBook {
         list::job_at(self.list.as_slice(), number)
     }
 
+    /// Whether the numbers of all jobs are lower than a number.
+    pub fn is_later(&self, number: u64) -> bool
+        ensures { result ≡ list_all (is_earlier number) self.now }
+    {
+        match self.list.last() {
+            Some(running) => running.card.job < number,
+            None => true,
+        }
+    }
+
     /// Whether a loan overlaps a path.
     pub fn is_lent(&self, path: &Path) -> bool
         ensures { result ≡ is_lent path.now (jobs_of self.now) }
@@ -81,6 +91,7 @@ impl JobBook {
         requires source { is_source_lent running.lent (jobs_of self.old) ≡ false }
         requires apart { is_source_over (path_of_task running.card.task) running.lent ≡ false }
         ensures list { self.new ≡ (if is_ok result then self.old ++ running ∷ [] else self.old) }
+        ensures jobs { jobs_of self.new ≡ (if is_ok result then jobs_of self.old ++ job_of running ∷ [] else jobs_of self.old) }
         ensures back { IfErr result (λ back. back ≡ running) }
     {
         if self.list.reserve(1).is_err() {
