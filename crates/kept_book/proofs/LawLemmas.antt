@@ -1,5 +1,5 @@
 -- Marks and the stored rows of the model.
-use Rattle.std.proofs.Common.{◌≡◌, ℕ, Bool, not, ◌||◌, List, [], ◌∷◌, map, refl, ◌∙◌, sym, ap}
+use Rattle.std.proofs.Common.{◌≡◌, ℕ, not, ◌||◌, List, [], ◌∷◌, map, refl, sym, ap}
 use Rattle.std.specs.List.{filter}
 use Rattle.mat_path.specs.Names.{same_names}
 use Rattle.mat_model.specs.Kept.{KeptRow, is_kept_clear, is_listed as is_row_listed, is_unlisted}

@@ -1,4 +1,5 @@
 pub mod ClearLemmas
+pub mod CountLemmas
 pub mod KeptLemmas
 pub mod LawLemmas
 pub mod ListLemmas

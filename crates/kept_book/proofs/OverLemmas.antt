@@ -1,16 +1,15 @@
 -- The marks that overlap a path, found among all spots that do.
-use Rattle.std.proofs.Common.{◌≡◌, ℕ, Bool, true, false, not, ◌&&◌, cond, List, [], ◌∷◌, ◌++◌, map, refl, ◌∙◌, sym, ap}
+use Rattle.std.proofs.Common.{◌≡◌, ℕ, Bool, true, false, not, cond, List, [], ◌∷◌, ◌++◌, map, refl, ◌∙◌, sym, ap}
 use Rattle.std.proofs.lemmas.Bool.{and_from}
 use Rattle.std.specs.Cmp.{first_so, second_so}
 use Rattle.std.specs.List.{filter, find, list_all}
 use Rattle.std.specs.Option.{is_some, option_map}
-use Rattle.std.specs.declared.option.Option.{Option}
-use Rattle.std.specs.declared.option.Option.TheVariants.{Some, None}
-use Rattle.mat_path.specs.Names.{overlap, same_names}
+use Rattle.std.specs.declared.option.Option.TheVariants.{Some}
+use Rattle.mat_path.specs.Names.{overlap}
 use Rattle.mat_path.proofs.PathLemmas.{overlap_comm}
 use Rattle.mat_path.proofs.SameNames.{same_names-refl}
 use Rattle.path_trie.specs.declared.entry.Entry.{Entry}
-use Rattle.path_trie.specs.Entries.{ascends, is_at, is_less, overlaps, path_of, value_at, value_of}
+use Rattle.path_trie.specs.Entries.{ascends, is_at, is_less, overlaps, path_of, value_of}
 use Rattle.path_trie.proofs.Lists.{all_filter, filter_same}
 use Rattle.path_trie.proofs.Values.{apart_behind}
 use Rattle.kept_book.specs.declared.mark.Mark.{Mark}

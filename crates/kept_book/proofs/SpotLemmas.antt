@@ -98,11 +98,11 @@ split p (x ∷ xs) h =
 
 -- ---- what stands for what, around a path
 
-front_told : {Y : Type 0} (f : List (List ℕ) → Spot → List Y) (p : List (List ℕ)) (v : Spot) (xs : List (Entry Spot))
+pub front_told : {Y : Type 0} (f : List (List ℕ) → Spot → List Y) (p : List (List ℕ)) (v : Spot) (xs : List (Entry Spot))
     → all_told f (put p v xs) ≡ all_told f (filter (is_before p) xs) ++ (f p v ++ all_told f (filter (is_behind p) xs))
 front_told f p v xs = flat_map-append (told f) (filter (is_before p) xs) (record { path = p; value = v } ∷ filter (is_behind p) xs)
 
-parts_told : {Y : Type 0} (f : List (List ℕ) → Spot → List Y) (p : List (List ℕ)) (xs : List (Entry Spot)) → ascends xs ≡ true
+pub parts_told : {Y : Type 0} (f : List (List ℕ) → Spot → List Y) (p : List (List ℕ)) (xs : List (Entry Spot)) → ascends xs ≡ true
     → all_told f xs ≡ all_told f (filter (is_before p) xs) ++ (told_at f p (value_at p xs) ++ all_told f (filter (is_behind p) xs))
 parts_told {Y} f p xs h =
     ap (all_told f) (split p xs h)
@@ -132,7 +132,7 @@ without_is p xs h =
     by (Some v) =
         ap (λ b. cond (not b) (record { path = p; value = v } ∷ without p (filter (is_behind p) xs)) (without p (filter (is_behind p) xs))) (same_names-refl p) ∙ back
 
-without_told : {Y : Type 0} (f : List (List ℕ) → Spot → List Y) (p : List (List ℕ)) (xs : List (Entry Spot)) → ascends xs ≡ true
+pub without_told : {Y : Type 0} (f : List (List ℕ) → Spot → List Y) (p : List (List ℕ)) (xs : List (Entry Spot)) → ascends xs ≡ true
     → all_told f (without p xs) ≡ all_told f (filter (is_before p) xs) ++ all_told f (filter (is_behind p) xs)
 without_told f p xs h = ap (all_told f) (without_is p xs h) ∙ flat_map-append (told f) (filter (is_before p) xs) (filter (is_behind p) xs)
 

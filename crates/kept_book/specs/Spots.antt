@@ -90,3 +90,10 @@ without_place (Some (spot.Both last new)) = Some (spot.Kept last new)
 abbrev pub left_with : List (List ℕ) → Option Spot → List (Entry Spot) → List (Entry Spot)
 left_with path None spots = without path spots
 left_with path (Some one) spots = put path one spots
+
+-- how many marks stand at a path
+abbrev pub mark_count : Option Spot → ℕ
+mark_count None = 0
+mark_count (Some (spot.Kept last new)) = 1
+mark_count (Some spot.Reserved) = 0
+mark_count (Some (spot.Both last new)) = 1

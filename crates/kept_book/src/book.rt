@@ -1,19 +1,17 @@
-ghost use Rattle.std.specs.Prelude.{◌≡◌, [], true, is_ok, is_some, filter, find, if◌then◌else◌, map, IfOk};
+ghost use Rattle.std.specs.Prelude.{◌≡◌, [], true, is_ok, is_some, filter, find, if◌then◌else◌, length, map, IfOk};
 ghost use Rattle.std.specs.Option.{option_map};
 ghost use Rattle.kept_book.specs.Marks.{is_mark_at, is_mark_elsewhere, is_mark_unlisted, is_other, is_reserved, mark_at, overlaps_mark, path_of_mark, put_mark, put_path, use_of};
 
-use crate::spot::{
-    Spot, add, keep_marked, leave, set, use_at, with_place, with_use, without_place, without_use,
-};
+use crate::spot::{Spot, with_place, with_use, without_place, without_use};
+use crate::spot_map::{SpotMap, keep_marked};
 use mat_path::{Memory, Path};
-use path_trie::Trie;
 use std::alloc::Global;
 use std::marker::Model;
 
 /// The marks of the rows that the state store has, and the places that are reserved for rows, both in order of path, each path once.
 #[derive(Debug, Drop)]
 pub struct KeptBook {
-    spots: Trie<Spot>,
+    spots: SpotMap,
 }
 
 impl Model for KeptBook {
@@ -32,8 +30,15 @@ impl KeptBook {
         ensures reserved { result.reserved ≡ [] }
     {
         KeptBook {
-            spots: Trie::new(alloc),
+            spots: SpotMap::new(alloc),
         }
+    }
+
+    /// How many marks there are. In time that doesn't grow with them, and without memory.
+    pub fn len(&self) -> usize
+        ensures { result ≡ length self.now.marks }
+    {
+        self.spots.mark_count()
     }
 
     /// The last use of the mark at exactly a path in microseconds, and whether its row is in the version that is written now. Takes no
@@ -42,7 +47,7 @@ impl KeptBook {
         ensures { result ≡ option_map use_of (find (is_mark_at path.now) self.now.marks) }
     {
         self.spots.is_in_order();
-        use_at(&self.spots, path)
+        self.spots.use_at(path)
     }
 
     /// The paths of the marks that overlap a path, in order of path.
@@ -62,7 +67,7 @@ impl KeptBook {
     {
         self.spots.is_in_order();
         let spot = with_use(self.spots.get(path), last, new);
-        add(&mut self.spots, path, spot)
+        self.spots.add(path, spot)
     }
 
     /// Takes the mark at exactly a path away, and says whether there was one.
@@ -72,9 +77,9 @@ impl KeptBook {
         ensures was { result ≡ is_some (find (is_mark_at path.now) self.old.marks) }
     {
         self.spots.is_in_order();
-        let was = use_at(&self.spots, path).is_some();
+        let was = self.spots.use_at(path).is_some();
         let spot = without_use(self.spots.get(path));
-        leave(&mut self.spots, path, spot);
+        self.spots.leave(path, spot);
         was
     }
 
@@ -95,7 +100,7 @@ impl KeptBook {
     {
         self.spots.is_in_order();
         let spot = with_place(self.spots.get(path));
-        add(&mut self.spots, path, spot)
+        self.spots.add(path, spot)
     }
 
     /// Puts a mark at a path for which a place is reserved, and uses that up.
@@ -105,7 +110,7 @@ impl KeptBook {
         ensures reserved { self.new.reserved ≡ filter (is_other path.now) self.old.reserved }
     {
         self.spots.is_in_order();
-        set(&mut self.spots, path, Spot::Kept { last, new });
+        self.spots.set(path, Spot::Kept { last, new });
     }
 
     /// Gives the place up that is reserved at a path, if one is.
@@ -115,6 +120,6 @@ impl KeptBook {
     {
         self.spots.is_in_order();
         let spot = without_place(self.spots.get(path));
-        leave(&mut self.spots, path, spot);
+        self.spots.leave(path, spot);
     }
 }

@@ -5,6 +5,7 @@ mod book;
 mod laws;
 mod mark;
 mod spot;
+mod spot_map;
 
 pub use book::KeptBook;
 pub use laws::{

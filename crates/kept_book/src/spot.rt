@@ -1,10 +1,6 @@
-ghost use Rattle.std.specs.Prelude.{◌≡◌, filter, is_ok, is_some, true, if◌then◌else◌};
+ghost use Rattle.std.specs.Prelude.{◌≡◌};
 ghost use Rattle.std.specs.Option.{option_copied};
-ghost use Rattle.path_trie.specs.Entries.{put, value_at};
-ghost use Rattle.kept_book.specs.Spots.{both, is_kept_at, left_with, use_in, with_place, with_use, without_place, without_use};
-
-use mat_path::{Memory, Path};
-use path_trie::Trie;
+ghost use Rattle.kept_book.specs.Spots.{both, mark_count, use_in, with_place, with_use, without_place, without_use};
 
 /// What stands at a path: a mark, a place that is reserved, or both.
 #[derive(Debug, Drop)]
@@ -24,32 +20,6 @@ pub(crate) fn with_use(found: Option<&Spot>, last: u64, new: bool) -> Spot
         Some(Spot::Both { .. }) => Spot::Both { last, new },
         None => Spot::Kept { last, new },
     }
-}
-
-// The last use and the version of the mark at a path.
-pub(crate) fn use_at(spots: &Trie<Spot>, path: &Path) -> Option<(u64, bool)>
-    ensures { result ≡ use_in (value_at path.now spots.now) }
-{
-    match spots.get(path) {
-        Some(Spot::Kept { last, new }) => Some((*last, *new)),
-        Some(Spot::Reserved) => None,
-        Some(Spot::Both { last, new }) => Some((*last, *new)),
-        None => None,
-    }
-}
-
-// Whether there is a mark at a path.
-fn is_kept_at(spots: &Trie<Spot>, path: &Path) -> bool
-    ensures { result ≡ is_kept_at spots.now path.now }
-{
-    use_at(spots, path).is_some()
-}
-
-// The paths at which there is a mark, of some.
-pub(crate) fn keep_marked(spots: &Trie<Spot>, paths: &mut Vec<Path>)
-    ensures { paths.new.items ≡ filter (is_kept_at spots.now) paths.old.items }
-{
-    paths.retain(|path| is_kept_at(spots, path));
 }
 
 // What stands at a path once a place is reserved.
@@ -101,33 +71,26 @@ pub(crate) fn without_place(found: Option<&Spot>) -> Option<Spot>
     }
 }
 
-// A spot at a path, in the place of the one there. For want of memory nothing changes.
-pub(crate) fn add(spots: &mut Trie<Spot>, path: &Path, spot: Spot) -> Result<(), Memory>
-    ensures { spots.new ≡ (if is_ok result then put path.now spot spots.old else spots.old) }
+// The last use and the version of the mark of what stands at a path.
+pub(crate) fn use_in(found: Option<&Spot>) -> Option<(u64, bool)>
+    ensures { result ≡ use_in (option_copied found.entry) }
 {
-    match spots.insert(path, spot) {
-        Ok(_) => Ok(()),
-        Err(_) => Err(Memory),
+    match found {
+        Some(Spot::Kept { last, new }) => Some((*last, *new)),
+        Some(Spot::Reserved) => None,
+        Some(Spot::Both { last, new }) => Some((*last, *new)),
+        None => None,
     }
 }
 
-// Another spot where one stands. Takes no memory.
-pub(crate) fn set(spots: &mut Trie<Spot>, path: &Path, spot: Spot)
-    requires { is_some (value_at path.now spots.old) ≡ true }
-    ensures { spots.new ≡ put path.now spot spots.old }
+// How many marks stand at a path: one or none.
+pub(crate) fn mark_count(found: Option<&Spot>) -> usize
+    ensures { result ≡ mark_count (option_copied found.entry) }
 {
-    let _old = spots.replace(path, spot);
-}
-
-// Another spot where one stands, or none. Takes no memory.
-pub(crate) fn leave(spots: &mut Trie<Spot>, path: &Path, spot: Option<Spot>)
-    requires { is_some spot ≡ true → is_some (value_at path.now spots.old) ≡ true }
-    ensures { spots.new ≡ left_with path.now spot spots.old }
-{
-    match spot {
-        Some(spot) => set(spots, path, spot),
-        None => {
-            spots.remove(path);
-        }
+    match found {
+        Some(Spot::Kept { .. }) => 1,
+        Some(Spot::Reserved) => 0,
+        Some(Spot::Both { .. }) => 1,
+        None => 0,
     }
 }

@@ -40,22 +40,23 @@ fn count_over(alloc: Global, book: &KeptBook, path: &[u8]) -> Result<usize, Fail
 fn marks_and_places_come_and_go(rt: HostRuntime) -> Result<(), Fail> {
     let alloc = rt.alloc();
     let mut book = KeptBook::new(alloc);
-    // the step, whether a mark is removed, and how many marks overlap out/a then
+    // the step, whether a mark is removed, how many marks overlap out/a then, and how many there are
     let table = [
-        (Step::Put(b"out/a/b"), false, 1),
-        (Step::Reserve(b"out/a/b"), false, 1),
-        (Step::Reserve(b"out/a/c"), false, 1),
-        (Step::Put(b"out"), false, 2),
-        (Step::Put(b"out/b"), false, 2),
-        (Step::Remove(b"out/a/b"), true, 1),
-        (Step::Remove(b"out/a/b"), false, 1),
-        (Step::Put(b"out/a/c"), false, 2),
-        (Step::Release(b"out/a/c"), false, 2),
-        (Step::Release(b"out/a/b"), false, 2),
+        (Step::Put(b"out/a/b"), false, 1, 1),
+        (Step::Reserve(b"out/a/b"), false, 1, 1),
+        (Step::Reserve(b"out/a/c"), false, 1, 1),
+        (Step::Put(b"out"), false, 2, 2),
+        (Step::Put(b"out/b"), false, 2, 3),
+        (Step::Remove(b"out/a/b"), true, 1, 2),
+        (Step::Remove(b"out/a/b"), false, 1, 2),
+        (Step::Put(b"out/a/c"), false, 2, 3),
+        (Step::Release(b"out/a/c"), false, 2, 3),
+        (Step::Release(b"out/a/b"), false, 2, 3),
     ];
-    for (what, was, over) in table.as_slice() {
+    for (what, was, over, all) in table.as_slice() {
         assert_eq!(rt; carry_out(alloc, &mut book, what)?, *was);
         assert_eq!(rt; count_over(alloc, &book, b"out/a")?, *over);
+        assert_eq!(rt; book.len(), *all);
     }
     assert_eq!(rt; book.get(&Path::read(alloc, b"out/a/c")?), Some((7, true)));
     assert_eq!(rt; book.get(&Path::read(alloc, b"out/a/b")?), None);
