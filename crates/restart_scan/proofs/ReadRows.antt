@@ -4,7 +4,7 @@ use Rattle.std.proofs.lemmas.List.{length-map}
 use Rattle.std.specs.declared.alloc.Global.{Global}
 use Rattle.std.specs.declared.vec.Vec.{Vec}
 use Rattle.restart_scan.specs.Stores.{AreOf, IsAdded}
-use Rattle.core_laws.specs.Stored.{raw_row}
+use Rattle.core_laws.specs.Stored.{IsReadable, raw_row}
 use Rattle.std.proofs.lemmas.Bool.{and_from, and_parts}
 use Rattle.std.specs.List.{list_all}
 use Rattle.mat_tree.specs.Trees.{is_placed}
@@ -241,5 +241,5 @@ store_result identity raws rows (Err why) same are = tt
 
 -- a row that was read was put into its place
 pub adds : (identity : ℕ) (raw : RawRow) (pair : List (List ℕ) × Body) (old new : List (List (List ℕ) × Body)) → raw ≡ raw_row identity (kept_at pair) →
-    new ≡ insert_entry path_cmp old pair.0 pair.1 → IsAdded identity raw (kept_in old) (kept_in new)
-adds identity raw pair old new same put = record { one = kept_at pair; same = same; put = ap kept_in put ∙ kept-insert pair.0 pair.1 old }
+    IsReadable (kept_at pair) → new ≡ insert_entry path_cmp old pair.0 pair.1 → IsAdded identity raw (kept_in old) (kept_in new)
+adds identity raw pair old new same readable put = record { one = kept_at pair; same = same; readable = readable; put = ap kept_in put ∙ kept-insert pair.0 pair.1 old }

@@ -4,7 +4,7 @@ use Rattle.std.proofs.lemmas.Bool.{and_parts, both_ways, false_from_ne_true, or_
 use Rattle.std.proofs.lemmas.List.{drop_more, take-append-drop, take_more}
 use Rattle.std.proofs.lemmas.List.Elements.{Contains-append_cases, Contains-append_left, Contains-append_right}
 use Rattle.std.proofs.lemmas.List.Splits.{join_with_byte-slice_split}
-use Rattle.std.specs.List.{Contains, list_all, list_any}
+use Rattle.std.specs.List.{All, Contains, list_all, list_any}
 use Rattle.std.specs.Ordering.{is_lt}
 use Rattle.mat_path.specs.Names.{is_path, joined, name_cmp, overlap, path_of, pieces, same_names}
 use Rattle.mat_path.proofs.Elements.{contains_cases, contains_first, contains_more}
@@ -19,7 +19,8 @@ use Rattle.mat_model.specs.Kept.{KeptRow, kept_as, put_kept}
 use Rattle.mat_model.specs.Openings.{found_row, found_rows, kept_at_opening}
 use Rattle.mat_model.specs.Rows.{comes_before}
 use Rattle.model_laws.specs.KeptRules.{path_of_kept}
-use Rattle.core_laws.specs.Stored.{IsOneOf, IsStore, identity_of, raw_row}
+use Rattle.mat_tree.specs.Trees.{IsNode, IsTree}
+use Rattle.core_laws.specs.Stored.{IsOneOf, IsReadable, IsStore, identity_of, raw_row}
 use Rattle.row_bytes.specs.Rows.{IsRow, row_bytes}
 use Rattle.row_bytes.specs.declared.row.KeptTree.{KeptTree}
 use Rattle.restart_scan.specs.Opened.{IsMadeOf, are_kept_apart, is_kept_before, is_old, old_paths}
@@ -119,7 +120,7 @@ path_itself path = ap is_lt (path_cmp-refl path)
 -- one row more of the state store was put into its place
 pub kept_grows : (identity : ℕ) (raws : List RawRow) (i : ℕ) (raw : RawRow) (old now : List KeptRow) → ascend raws ≡ true → i < length raws →
     raw ≡ get_or raws i raw → IsAdded identity raw old now → AreOf identity old (take i raws) → AreOf identity now (take (i + 1) raws)
-kept_grows identity raws i raw old now up within at added are = record { each = each; others = others }
+kept_grows identity raws i raw old now up within at added are = record { each = each; others = others; readable = readable }
   where
     more : take (i + 1) raws ≡ take i raws ++ raw ∷ []
     more = take_more raws i raw within ∙ ap (λ (x : RawRow). take i raws ++ x ∷ []) (sym at)
@@ -144,6 +145,13 @@ kept_grows identity raws i raw old now up within at added are = record { each = 
               (subst (λ (r : RawRow). Contains (raw ∷ []) r) (added.same ∙ ap (raw_row identity) same) (contains_first raw []))
           | inr there ↦ Contains-append_left (take i raws) (raw ∷ []) (raw_row identity one) (are.each one there)
         ])
+
+    readable : (one : KeptRow) → Contains now one → IsReadable one
+    readable one among =
+        elim (put_from added.one old one (subst (λ (l : List KeptRow). Contains l one) added.put among)) [
+          | inl same ↦ subst IsReadable same added.readable
+          | inr there ↦ are.readable one there
+        ]
 
     others : (x : RawRow) → Contains (take (i + 1) raws) x → IsOneOf identity now x
     others x among =
@@ -170,6 +178,7 @@ pub kept_begins : (identity : ℕ) → AreOf identity [] []
 kept_begins identity = record {
   each = λ one among. absurd (omega (arith, among.1));
   others = λ raw among. absurd (omega (arith, among.1));
+  readable = λ one among. absurd (omega (arith, among.1));
 }
 
 -- ---- the rows of an opening, as they are kept
@@ -252,7 +261,7 @@ pub stores_told : (identity : ℕ) (told : Option (List RawRow)) (raws : List Ra
     AreOf identity kept raws → Stores identity told kept
 stores_told identity None raws kept these up are = tt
 stores_told identity (Some those) raws kept these up are =
-    subst (λ (l : List RawRow). IsStore identity kept l) these (record { order = up; each = are.each; others = are.others })
+    subst (λ (l : List RawRow). IsStore identity kept l) these (record { order = up; each = are.each; others = are.others; readable = are.readable })
 
 -- ---- one row
 
@@ -271,3 +280,12 @@ row_same identity raw path body text bytes last = rebuilt (sym text) bytes last
 pub body_same : (identity : ℕ) (bytes : List ℕ) (kept : KeptTree) (path : List (List ℕ)) (body : Body) → IsRow bytes kept → body.tree ≡ kept.tree →
     identity_of identity (kept_at (path, body)) ≡ kept.identity → bytes ≡ row_bytes (identity_of identity (kept_at (path, body))) body.tree
 body_same identity bytes kept path body is tree number = is.text ∙ ap₂ (λ (n : Option ℕ) (t : List Flat). row_bytes n t) (sym number) (sym tree)
+
+-- the row that was made of bytes at a path can be read back
+pub body_readable : (bytes : List ℕ) (kept : KeptTree) (path : List (List ℕ)) (body : Body) → IsRow bytes kept → body.tree ≡ kept.tree →
+    is_path path ≡ true → IsReadable (kept_at (path, body))
+body_readable bytes kept path body is tree at = record {
+  placed = at;
+  whole = subst IsTree (sym tree) is.tree;
+  nodes = subst (All IsNode) (sym tree) is.nodes;
+}

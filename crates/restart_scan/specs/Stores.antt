@@ -5,17 +5,19 @@ use Rattle.keep_port.specs.declared.row.RawRow.{RawRow}
 use Rattle.mat_model.specs.declared.opening.Opening.{Opening}
 use Rattle.mat_model.specs.Kept.{KeptRow, put_kept}
 use Rattle.mat_model.specs.Openings.{kept_at_opening}
-use Rattle.core_laws.specs.Stored.{IsOneOf, IsStore, raw_row}
+use Rattle.core_laws.specs.Stored.{IsOneOf, IsReadable, IsStore, raw_row}
 
 -- kept rows are those of some rows of the state store, and all of them
 pub record AreOf (identity : ℕ) (kept : List KeptRow) (raws : List RawRow) : Type 0 where
   pub each : (one : KeptRow) → Contains kept one → Contains raws (raw_row identity one)
   pub others : (raw : RawRow) → Contains raws raw → IsOneOf identity kept raw
+  pub readable : (one : KeptRow) → Contains kept one → IsReadable one
 
 -- a row of the state store was put into its place among kept rows
 pub record IsAdded (identity : ℕ) (raw : RawRow) (old now : List KeptRow) : Type 0 where
   pub one : KeptRow
   pub same : raw ≡ raw_row identity one
+  pub readable : IsReadable one
   pub put : now ≡ put_kept one old
 
 -- the state store has kept rows and no others, where it tells its rows

@@ -5,7 +5,7 @@ ghost use Rattle.std.specs.Option.{option_map};
 ghost use Rattle.mat_path.specs.Names.{joined};
 ghost use Rattle.mat_tree.specs.Trees.{is_placed};
 ghost use Rattle.keep_port.specs.Rows.{ascend};
-ghost use Rattle.core_laws.specs.Stored.{identity_of, raw_row};
+ghost use Rattle.core_laws.specs.Stored.{IsReadable, identity_of, raw_row};
 ghost use Rattle.row_bytes.specs.Rows.{IsRow, row_bytes};
 ghost use Rattle.model_laws.specs.KeptRules.{KeptAscend};
 ghost use Rattle.restart_scan.specs.Opened.{AreKept, are_kept_apart};
@@ -146,12 +146,14 @@ fn own(identity: u64, path: &Path, kept: KeptTree, last: u64) -> Result<Body, Sc
 }
 
 // What a row of the state store says of its path.
-#[tactic(auto, using(crate::proofs::StoredRows::body_same), unfolding(crate::specs::Rows::body_in))]
+#[tactic(auto, using(crate::proofs::StoredRows::body_same, crate::proofs::StoredRows::body_readable), unfolding(crate::specs::Rows::body_in))]
 fn read_body(alloc: Global, identity: u64, path: &Path, raw: &RawRow) -> Result<Body, ScanRefusal>
     ensures bytes { IfOk result (λ body. raw.now.body ≡ row_bytes (identity_of identity (Spec.kept_at (path.now, body))) body.tree) }
     ensures last { IfOk result (λ body. raw.now.last ≡ body.last) }
+    ensures readable { IfOk result (λ body. IsReadable (Spec.kept_at (path.now, body))) }
     ensures read { Spec.Gives (λ body. body) result (Spec.body_in identity path.now raw.now) }
 {
+    let _names = path.names();
     let kept = read_tree(alloc, path, raw.body.as_slice())?;
     let whole = placed(path, kept)?;
     own(identity, path, whole, raw.last)
@@ -161,6 +163,7 @@ fn read_body(alloc: Global, identity: u64, path: &Path, raw: &RawRow) -> Result<
 #[tactic(auto, using(crate::proofs::StoredRows::row_same), unfolding(crate::specs::Rows::row_in))]
 fn read_one(alloc: Global, identity: u64, raw: &RawRow) -> Result<(Path, Body), ScanRefusal>
     ensures row { IfOk result (λ pair. raw.now ≡ raw_row identity (Spec.kept_at pair)) }
+    ensures readable { IfOk result (λ pair. IsReadable (Spec.kept_at pair)) }
     ensures read { Spec.Gives (λ pair. pair) result (Spec.row_in identity raw.now) }
 {
     let path = read_path(alloc, raw.path.as_slice())?;
