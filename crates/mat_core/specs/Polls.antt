@@ -1,0 +1,16 @@
+-- What is told of a ticket.
+use Rattle.std.specs.Prelude.{Option, Some, None}
+use Rattle.mat_model.specs.declared.book.Given.{Given}
+use Rattle.mat_model.specs.declared.book.Ticket.{Ticket}
+use Rattle.mat_core.specs.declared.core_.Poll.{Poll}
+use Rattle.mat_core.specs.declared.core_.Poll.TheVariants as poll
+
+-- how a ticket stands that was answered or not
+abbrev pub poll_given : Option Given → Poll
+poll_given None = poll.Pending
+poll_given (Some given) = poll.Answered given.answer
+
+-- how a ticket stands, if there is one
+abbrev pub poll_in : Option Ticket → Poll
+poll_in None = poll.Unknown
+poll_in (Some ticket) = poll_given ticket.answered

@@ -1,0 +1,158 @@
+// The core.
+ghost use Rattle.std.specs.Prelude.{◌≡◌, ◌≤◌, ◌+◌, find, length};
+ghost use Rattle.std.specs.Option.{option_copied, option_map};
+ghost use Rattle.mat_model.specs.WorkState.{stamp_of};
+ghost use Rattle.row_book.specs.Stocks.{row_of};
+ghost use Rattle.mat_core.specs.Polls.{poll_in};
+
+use crate::entering::place_of;
+use crate::parts::Parts;
+use hall_lock::By;
+use keep_port::Keeper;
+use mat_model::{Answer, Entry, Reply, Request, Ticket};
+use mat_path::Path;
+use path_trie::Steps;
+use region_port::Disk;
+use row_book::Stock;
+use std::marker::Model;
+use std::sync::ledger::Ledger;
+
+/// Where a command is.
+#[derive(Clone, Copy, Debug, PartialEq, Eq)]
+pub enum Place {
+    /// It is live.
+    Live,
+    /// It waits, at this place of the queue, from 1.
+    Waiting(u64),
+    /// It is neither.
+    Absent,
+}
+
+/// What became of a ticket.
+#[derive(Clone, Copy, Debug, PartialEq, Eq)]
+pub enum Poll {
+    /// It was answered so.
+    Answered(Answer),
+    /// It is open.
+    Pending,
+    /// No such ticket was given.
+    Unknown,
+}
+
+/// The daemon's book, its work and its devices.
+pub struct Core<D: Disk, K: Keeper> {
+    parts: Parts<D, K>,
+}
+
+impl<D: Disk, K: Keeper> Model for Core<D, K> {
+    ghost use Rattle.mat_core.specs.Cores.{IsCore, Seen, ToldDisk, ToldStore, seen_of};
+
+    ghost Value = { Seen D K };
+
+    ghost view = { λ core. seen_of core.parts };
+
+    ghost invariant = { λ core. IsCore (λ disk. record { content = D.content disk; lent = D.lent disk; rough = D.rough disk; faults = D.fault_count disk }) (λ keeper. record { rows = K.kept keeper; faults = K.fault_count keeper }) core.parts };
+}
+
+impl<D: Disk, K: Keeper> Core<D, K> {
+    ghost use Rattle.std.specs.Prelude.{◌++◌, ◌∷◌, [], ℕ, true, false, max, nat_lt, if◌then◌else◌, count_by};
+    ghost use Rattle.mat_model.specs.Legal.{MayAsk, end_of_time, is_of};
+    ghost use Rattle.mat_model.specs.Room.{full_asked};
+    ghost use Rattle.mat_core.specs.Asks.{entry_of, request_asks};
+    ghost use Rattle.mat_core.specs.Cores.{IsSeen, ToldDisk, ToldStore, point_in};
+    ghost use Rattle.mat_core.specs.Served.{full_of, is_entered, is_want};
+    ghost use Rattle.mat_model.specs.Gate.{gate_of};
+    ghost use Rattle.mat_model.specs.Rows.{cover};
+    ghost use Rattle.ticket_book.specs.Asked.{has_number};
+    ghost use Rattle.mat_core.specs.Enters.{place_in};
+
+    /// The law of a core: its history is legal, and its devices keep their rules beside the point that this leads to. It does nothing.
+    pub fn keeps(&self)
+        ensures { IsSeen (λ (disk : D). record { content = D.content disk; lent = D.lent disk; rough = D.rough disk; faults = D.fault_count disk }) (λ (keeper : K). record { rows = K.kept keeper; faults = K.fault_count keeper }) self.now }
+    {
+        let _ = &self.parts;
+    }
+
+    /// Serves a request at a moment, and enters it in the history unless a limit would be passed or memory is wanting: then nothing changes.
+    /// A `Leave` that is answered `Left` takes no memory.
+    pub fn call(&mut self, by: By, now: u64, request: Request) -> Reply
+        requires number { by.number ≡ count_by (is_of by.caller) self.old.history }
+        requires asks { MayAsk (request_asks request) }
+        requires time { nat_lt now end_of_time ≡ true }
+        ensures base { self.new.base ≡ self.old.base }
+        ensures history { self.new.history ≡ (if is_entered result then self.old.history ++ entry_of by (point_in self.new).book.now request result ∷ [] else self.old.history) }
+        ensures disk { self.new.disk ≡ self.old.disk }
+        ensures keeper { self.new.keeper ≡ self.old.keeper }
+        ensures full { is_want result ≡ false → full_of result ≡ full_asked self.old.base.limits (point_in self.old) (max (point_in self.old).book.now now) (request_asks request) }
+    {
+        self.parts.call(by, now, request)
+    }
+
+    /// Where a command is. Takes no memory, as the calls below.
+    pub fn place(&self, command: u32) -> Place
+        ensures { result ≡ place_in command (gate_of (point_in self.now).book) }
+    {
+        place_of(&self.parts.gate, command)
+    }
+
+    /// What became of a ticket.
+    pub fn poll(&self, ticket: u64) -> Poll
+        ensures { result ≡ poll_in (find (has_number ticket) (point_in self.now).book.tickets) }
+    {
+        polled(self.parts.tickets.get(ticket))
+    }
+
+    /// The stamp of the row that covers a path, if one does.
+    ///
+    /// A step is one node visited: at most one more than the path has names.
+    pub fn cover<L: Ledger>(&self, path: &Path, steps: &mut Steps<L>) -> Option<u64>
+        ensures stamp { result ≡ option_map stamp_of (cover (point_in self.now).book.rows path.now) }
+        ensures most { steps.new ≤ steps.old + length path.now + 1 }
+    {
+        stamp_of(self.parts.rows.cover(path, steps))
+    }
+
+    /// All entries since it was opened.
+    pub fn history(&self) -> &[Entry]
+        ensures { result.now ≡ self.now.history }
+    {
+        self.parts.history.as_slice()
+    }
+
+    /// The disk as it is.
+    pub fn disk(&self) -> &D
+        ensures { result.now ≡ self.now.disk }
+    {
+        &self.parts.disk
+    }
+
+    /// The state store as it is.
+    pub fn keeper(&self) -> &K
+        ensures { result.now ≡ self.now.keeper }
+    {
+        &self.parts.keeper
+    }
+}
+
+// What is told of a ticket.
+fn polled(ticket: Option<&Ticket>) -> Poll
+    ensures { result ≡ poll_in (option_copied ticket.entry) }
+{
+    match ticket {
+        None => Poll::Unknown,
+        Some(ticket) => match ticket.answered {
+            None => Poll::Pending,
+            Some(given) => Poll::Answered(given.answer),
+        },
+    }
+}
+
+// The stamp of a stock's row.
+fn stamp_of(stock: Option<&Stock>) -> Option<u64>
+    ensures { result ≡ option_map stamp_of (option_map row_of (option_copied stock.entry)) }
+{
+    match stock {
+        Some(stock) => Some(stock.row.stamp),
+        None => None,
+    }
+}

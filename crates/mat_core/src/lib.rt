@@ -1,0 +1,17 @@
+//! Floor of the machine: the core, where book, work and devices meet.
+#![tactic(auto)]
+
+mod asking;
+mod base;
+mod calling;
+mod core_;
+mod ensuring;
+mod entering;
+mod granting;
+mod leaving;
+mod looking;
+mod parts;
+mod room;
+
+pub use base::Base;
+pub use core_::{Core, Place, Poll};
