@@ -74,7 +74,6 @@ impl<D: Disk, K: Keeper> Core<D, K> {
     }
 
     /// Serves a request at a moment, and enters it in the history unless a limit would be passed or memory is wanting: then nothing changes.
-    /// A `Leave` that is answered `Left` takes no memory.
     pub fn call(&mut self, by: By, now: u64, request: Request) -> Reply
         requires number { by.number ≡ count_by (is_of by.caller) self.old.history }
         requires asks { MayAsk (request_asks request) }
