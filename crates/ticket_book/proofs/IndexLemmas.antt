@@ -1,5 +1,5 @@
--- The two tables of numbers, where a ticket comes and where one is answered.
-use Rattle.std.proofs.Common.{◌≡◌, ◌<◌, ℕ, suc, nat_lt, ◌==◌, Bool, true, false, not, ◌&&◌, cond, List, [], ◌∷◌, ◌++◌, map, take, drop, get_or, length, refl, ◌∙◌, sym, ap, Some}
+-- The tables of numbers, where a ticket comes and where one is answered.
+use Rattle.std.proofs.Common.{◌≡◌, ◌<◌, ℕ, suc, nat_lt, ◌==◌, Bool, true, false, not, ◌&&◌, cond, List, [], ◌∷◌, ◌++◌, map, take, drop, get_or, length, refl, ◌∙◌, sym, ap, Option, Some}
 use Rattle.std.proofs.lemmas.Bool.{and_from, and_parts, eq-eqb}
 use Rattle.std.proofs.lemmas.List.{append-nil, take-append-drop}
 use Rattle.std.proofs.lemmas.List.Elements.{filter-append}
@@ -8,7 +8,9 @@ use Rattle.std.specs.BTreeMap.{BTreeMap, get}
 use Rattle.std.specs.BTreeSet.{insert_key}
 use Rattle.std.specs.List.{filter, list_all}
 use Rattle.std.specs.Ordering.{nat_cmp}
-use Rattle.mat_path.specs.Names.{same_names}
+use Rattle.std.specs.declared.alloc.Global.{Global}
+use Rattle.std.specs.declared.vec.Vec.{Vec}
+use Rattle.mat_path.specs.Names.{is_prefix, same_names}
 use Rattle.mat_model.specs.declared.answers.Answer.{Answer}
 use Rattle.mat_model.specs.declared.book.Ticket.{Ticket}
 use Rattle.mat_model.specs.Books.{are_ascending, number_of}
@@ -16,7 +18,8 @@ use Rattle.mat_model.specs.Tickets.{is_open, with_answer}
 use Rattle.path_trie.specs.declared.entry.Entry.{Entry}
 use Rattle.path_trie.specs.Entries.{value_at}
 use Rattle.path_trie.proofs.Lists.{all_so}
-use Rattle.ticket_book.specs.Asked.{answered_if, asks_for, has_number, is_due, is_earlier}
+use Rattle.ticket_book.specs.Asked.{answered_if, asks_below, asks_for, has_number, is_due, is_earlier}
+use Rattle.ticket_book.specs.Below.{numbers_at}
 use Rattle.ticket_book.specs.ByPath.{asks_at, due_numbers, is_other, list_or_empty, numbers_less, numbers_with, some_list}
 use Rattle.ticket_book.specs.Found.{is_past}
 use Rattle.ticket_book.specs.Index.{IsIndex}
@@ -73,30 +76,25 @@ put_undone q n ts true later =
     ∙ none_other n (due_numbers q ts) (due_lower q n ts later))
 put_undone q n ts false later = refl
 
-pub index_added : (ts : List Ticket) (t : Ticket) (es more : List (Entry (List ℕ))) (cs others : BTreeMap ℕ (List ℕ)) → IsIndex ts es cs
-    → list_all (is_earlier t.number) ts ≡ true → is_open t ≡ true
-    → ((at : List (List ℕ)) → value_at at more ≡ cond (same_names at t.asked) (numbers_with t.number (value_at at es)) (value_at at es))
-    → ((at : ℕ) → get nat_cmp others at ≡ cond (t.command == at) (numbers_with t.number (get nat_cmp cs at)) (get nat_cmp cs at))
-    → IsIndex (ts ++ t ∷ []) more others
-index_added ts t es more cs others are later still paths commands = record {
-  paths = λ at. paths at ∙ ap (λ o. cond (same_names at t.asked) (numbers_with t.number o) o) (are.paths at) ∙ one_more (asks_at at) ts t later still;
-  commands = λ at. commands at ∙ ap (λ o. cond (t.command == at) (numbers_with t.number o) o) (are.commands at) ∙ one_more (asks_for at) ts t later still;
-}
+-- what stands at a key of a table, once it is put there for a ticket
+pub table_added : (q : Ticket → Bool) (ts : List Ticket) (t : Ticket) (old new : Option (List ℕ)) → list_all (is_earlier t.number) ts ≡ true → is_open t ≡ true
+    → old ≡ some_list (due_numbers q ts) → new ≡ cond (q t) (numbers_with t.number old) old → new ≡ some_list (due_numbers q (ts ++ t ∷ []))
+table_added q ts t old new later still before put =
+    put ∙ ap (λ o. cond (q t) (numbers_with t.number o) o) before ∙ one_more q ts t later still
 
-pub index_undone : (ts : List Ticket) (t : Ticket) (es mid back : List (Entry (List ℕ))) (cs others : BTreeMap ℕ (List ℕ)) → IsIndex ts es cs
-    → list_all (is_earlier t.number) ts ≡ true
-    → ((at : List (List ℕ)) → value_at at mid ≡ cond (same_names at t.asked) (numbers_with t.number (value_at at es)) (value_at at es))
-    → ((at : List (List ℕ)) → value_at at back ≡ cond (same_names at t.asked) (numbers_less t.number (value_at at mid)) (value_at at mid))
-    → ((at : ℕ) → get nat_cmp others at ≡ get nat_cmp cs at)
-    → IsIndex ts back others
-index_undone ts t es mid back cs others are later put gone same = record {
-  paths = λ at.
-      gone at
-      ∙ ap (λ o. cond (same_names at t.asked) (numbers_less t.number o) o)
-      (put at ∙ ap (λ o. cond (same_names at t.asked) (numbers_with t.number o) o) (are.paths at))
-      ∙ put_undone (asks_at at) t.number ts (same_names at t.asked) later;
-  commands = λ at. same at ∙ are.commands at;
-}
+-- once it is put there, and taken away again
+pub table_undone : (q : Ticket → Bool) (n : ℕ) (ts : List Ticket) (b : Bool) (old mid new : Option (List ℕ)) → list_all (is_earlier n) ts ≡ true
+    → old ≡ some_list (due_numbers q ts) → mid ≡ cond b (numbers_with n old) old → new ≡ cond b (numbers_less n mid) mid → new ≡ some_list (due_numbers q ts)
+table_undone q n ts b old mid new later before put gone =
+    gone
+    ∙ ap (λ o. cond b (numbers_less n o) o) (put ∙ ap (λ o. cond b (numbers_with n o) o) before)
+    ∙ put_undone q n ts b later
+
+-- once it is taken away at a table of which the ticket is one
+pub table_back : (q : Ticket → Bool) (ts : List Ticket) (t : Ticket) (mid new : Option (List ℕ)) → list_all (is_earlier t.number) ts ≡ true → is_open t ≡ true
+    → mid ≡ some_list (due_numbers q (ts ++ t ∷ [])) → new ≡ cond (q t) (numbers_less t.number mid) mid → new ≡ some_list (due_numbers q ts)
+table_back q ts t mid new later still before gone =
+    table_undone q t.number ts (q t) (some_list (due_numbers q ts)) mid new later refl (before ∙ sym (one_more q ts t later still)) gone
 
 -- ---- a ticket is answered
 
@@ -175,23 +173,29 @@ one_fewer q n at given k ts d ascend front back within true e =
 one_fewer q n at given k ts d ascend front back within false e =
     ap some_list (sym (due_idle q n k ts d ascend front back within e) ∙ sym (due_without q n at given ts))
 
-pub index_answered : (n at : ℕ) (given : Answer) (k : ℕ) (ts news : List Ticket) (old : Ticket) (es more : List (Entry (List ℕ))) (cs others : BTreeMap ℕ (List ℕ)) → IsIndex ts es cs
+-- what stands at a key of a table, once the ticket of a number is answered and taken away there
+table_answered : (q : Ticket → Bool) (n at : ℕ) (given : Answer) (k : ℕ) (ts news : List Ticket) (t : Ticket) (old new : Option (List ℕ)) → are_ascending (map number_of ts) ≡ true
+    → list_all (is_earlier n) (take k ts) ≡ true → list_all (is_past n) (drop k ts) ≡ true → k < length ts
+    → t ≡ get_or ts k t → news ≡ map (answered_if (has_number n) at given) ts
+    → old ≡ some_list (due_numbers q ts) → new ≡ cond (is_due (has_number n) t && q t) (numbers_less n old) old
+    → new ≡ some_list (due_numbers q news)
+table_answered q n at given k ts news t old new ascend front back within is after before gone =
+    gone
+    ∙ ap (λ o. cond (is_due (has_number n) t && q t) (numbers_less n o) o) before
+    ∙ one_fewer q n at given k ts t ascend front back within (is_due (has_number n) t && q t) (ap (λ x. is_due (has_number n) x && q x) (sym is))
+    ∙ ap (λ xs. some_list (due_numbers q xs)) (sym after)
+
+-- all tables, once that ticket is answered
+pub index_answered : (n at : ℕ) (given : Answer) (k : ℕ) (ts news : List Ticket) (t : Ticket) (es more : List (Entry (List ℕ))) (gs heaps : BTreeMap (Vec (List ℕ) Global) (List ℕ)) (cs others : BTreeMap ℕ (List ℕ))
+    → IsIndex ts es gs cs
     → are_ascending (map number_of ts) ≡ true → list_all (is_earlier n) (take k ts) ≡ true → list_all (is_past n) (drop k ts) ≡ true → k < length ts
-    → old ≡ get_or ts k old → news ≡ map (answered_if (has_number n) at given) ts
-    → ((p : List (List ℕ)) → value_at p more ≡ cond (is_due (has_number n) old && same_names p old.asked) (numbers_less n (value_at p es)) (value_at p es))
-    → ((c : ℕ) → get nat_cmp others c ≡ cond (is_due (has_number n) old && (old.command == c)) (numbers_less n (get nat_cmp cs c)) (get nat_cmp cs c))
-    → IsIndex news more others
-index_answered n at given k ts news old es more cs others are ascend front back within is after paths commands = record {
-  paths = λ p.
-      paths p
-      ∙ ap (λ o. cond (is_due (has_number n) old && same_names p old.asked) (numbers_less n o) o) (are.paths p)
-      ∙ one_fewer (asks_at p) n at given k ts old ascend front back within (is_due (has_number n) old && same_names p old.asked)
-      (ap (λ t. is_due (has_number n) t && asks_at p t) (sym is))
-      ∙ ap (λ xs. some_list (due_numbers (asks_at p) xs)) (sym after);
-  commands = λ c.
-      commands c
-      ∙ ap (λ o. cond (is_due (has_number n) old && (old.command == c)) (numbers_less n o) o) (are.commands c)
-      ∙ one_fewer (asks_for c) n at given k ts old ascend front back within (is_due (has_number n) old && (old.command == c))
-      (ap (λ t. is_due (has_number n) t && asks_for c t) (sym is))
-      ∙ ap (λ xs. some_list (due_numbers (asks_for c) xs)) (sym after);
+    → t ≡ get_or ts k t → news ≡ map (answered_if (has_number n) at given) ts
+    → ((p : List (List ℕ)) → value_at p more ≡ cond (is_due (has_number n) t && same_names p t.asked) (numbers_less n (value_at p es)) (value_at p es))
+    → ((p : List (List ℕ)) → numbers_at p heaps ≡ cond (is_due (has_number n) t && is_prefix p t.asked) (numbers_less n (numbers_at p gs)) (numbers_at p gs))
+    → ((c : ℕ) → get nat_cmp others c ≡ cond (is_due (has_number n) t && (t.command == c)) (numbers_less n (get nat_cmp cs c)) (get nat_cmp cs c))
+    → IsIndex news more heaps others
+index_answered n at given k ts news t es more gs heaps cs others are ascend front back within is after paths below commands = record {
+  paths = λ p. table_answered (asks_at p) n at given k ts news t (value_at p es) (value_at p more) ascend front back within is after (are.paths p) (paths p);
+  below = λ p. table_answered (asks_below p) n at given k ts news t (numbers_at p gs) (numbers_at p heaps) ascend front back within is after (are.below p) (below p);
+  commands = λ c. table_answered (asks_for c) n at given k ts news t (get nat_cmp cs c) (get nat_cmp others c) ascend front back within is after (are.commands c) (commands c);
 }

@@ -1,4 +1,5 @@
 pub mod AnswerLemmas
+pub mod BelowLemmas
 pub mod ByPathLemmas
 pub mod DoneLemmas
 pub mod DueLemmas

@@ -1,6 +1,6 @@
 -- A walk over entries in order of path, one after the other.
 use Rattle.std.proofs.Common.{◌≡◌, ◌+◌, ◌<◌, ◌≤◌, ℕ, nat_le, Bool, true, false, ◌&&◌, cond, List, [], ◌∷◌, ◌++◌, length, length-append, refl, ◌∙◌, sym, ap, arith, Option, Some, None}
-use Rattle.std.proofs.lemmas.Bool.{and_parts, le-leb, leb-true, lt-leb, leb-false}
+use Rattle.std.proofs.lemmas.Bool.{and_parts, le-leb, leb-true, lt-leb}
 use Rattle.std.proofs.lemmas.List.{append-nil, append_assoc}
 use Rattle.std.specs.List.{filter, find, list_all}
 use Rattle.std.specs.Option.{option_map}
@@ -10,7 +10,7 @@ use Rattle.mat_path.proofs.SameNames.{same_name-eq}
 use Rattle.mat_path.specs.Names.{is_prefix, name_cmp, path_cmp, same_name}
 use Rattle.path_trie.specs.declared.entry.Entry.{Entry}
 use Rattle.path_trie.specs.Entries.{ascends, both, is_above, is_behind, is_high, is_less, is_next_under, is_under}
-use Rattle.ticket_book.specs.ByPath.{all_numbers, least, lower, lower_of}
+use Rattle.ticket_book.specs.ByPath.{all_numbers}
 
 -- ---- what is found
 
@@ -199,49 +199,3 @@ listed_room p v first known all old new room is before enough =
 
 pub listed_all : (all ns : List ℕ) (left : List (Entry (List ℕ))) → left ≡ [] → ns ++ all_numbers left ≡ all → ns ≡ all
 listed_all all ns left none before = sym (append-nil ns) ∙ ap (λ es. ns ++ all_numbers es) (sym none) ∙ before
-
--- ---- the lowest
-
-lower_more : (n : ℕ) (a b : Option ℕ) → lower n (lower_of a b) ≡ lower_of (lower n a) b
-lower_more n None b = refl
-lower_more n (Some m) None = by (nat_le n m)
-  where
-    by : (s : Bool) → cond s (Some n) (Some m) ≡ lower_of (cond s (Some n) (Some m)) None
-    by true = refl
-    by false = refl
-lower_more n (Some m) (Some k) = by (nat_le m k) refl (nat_le n m) refl
-  where
-    by : (s : Bool) → nat_le m k ≡ s → (t : Bool) → nat_le n m ≡ t → lower n (cond s (Some m) (Some k)) ≡ lower_of (cond t (Some n) (Some m)) (Some k)
-    by true a true b =
-        let x = leb-true m k a in
-        let y = leb-true n m b in
-        ap (λ c. cond c (Some n) (Some m)) b ∙ ap (λ c. cond c (Some n) (Some k)) (sym (le-leb n k (omega (arith, x, y))))
-    by true a false b = ap (λ c. cond c (Some n) (Some m)) b ∙ ap (λ c. cond c (Some m) (Some k)) (sym a)
-    by false a true b = refl
-    by false a false b =
-        let x = leb-false m k a in
-        let y = leb-false n m b in
-        ap (λ c. cond c (Some n) (Some k)) (lt-leb n k (omega (arith, x, y))) ∙ ap (λ c. cond c (Some m) (Some k)) (sym a)
-
-lower_three : (a b c : Option ℕ) → lower_of (lower_of a b) c ≡ lower_of a (lower_of b c)
-lower_three None b c = refl
-lower_three (Some n) b c = sym (lower_more n b c)
-
-pub least_append : (xs ys : List ℕ) → least (xs ++ ys) ≡ lower_of (least xs) (least ys)
-least_append [] ys = refl
-least_append (x ∷ xs) ys = ap (lower x) (least_append xs ys) ∙ lower_more x (least xs) (least ys)
-
-pub lowest_next : (p : List (List ℕ)) (v : List ℕ) (low new all : Option ℕ) (old left : List (Entry (List ℕ))) → old ≡ record { path = p; value = v } ∷ left
-    → lower_of low (least (all_numbers old)) ≡ all → new ≡ lower_of low (least v) → lower_of new (least (all_numbers left)) ≡ all
-lowest_next p v low new all old left is before more =
-    ap (λ o. lower_of o (least (all_numbers left))) more
-    ∙ lower_three low (least v) (least (all_numbers left))
-    ∙ ap (lower_of low) (sym (least_append v (all_numbers left)) ∙ ap (λ es. least (all_numbers es)) (sym is))
-    ∙ before
-
-pub lowest_end : (low all : Option ℕ) (left : List (Entry (List ℕ))) → left ≡ [] → lower_of low (least (all_numbers left)) ≡ all → low ≡ all
-lowest_end low all left none before = alone low ∙ ap (λ es. lower_of low (least (all_numbers es))) (sym none) ∙ before
-  where
-    alone : (o : Option ℕ) → o ≡ lower_of o None
-    alone None = refl
-    alone (Some n) = refl

@@ -75,11 +75,6 @@ abbrev pub lower : ℕ → Option ℕ → Option ℕ
 lower n None = Some n
 lower n (Some m) = if nat_le n m then Some n else Some m
 
--- the lower of two, if one is there
-abbrev pub lower_of : Option ℕ → Option ℕ → Option ℕ
-lower_of None other = other
-lower_of (Some n) other = lower n other
-
 -- the lowest of some numbers
 abbrev pub least : List ℕ → Option ℕ
 least [] = None

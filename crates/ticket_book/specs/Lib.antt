@@ -1,4 +1,5 @@
 pub mod Asked
+pub mod Below
 pub mod ByPath
 pub mod Done
 pub mod Found

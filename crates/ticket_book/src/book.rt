@@ -21,7 +21,7 @@ pub struct TicketBook {
     answered: Vec<u64>,
     // No ticket before this place is open.
     done: usize,
-    // The numbers of the open tickets by the path that they ask for, and by command.
+    // The numbers of the open tickets by the path that they ask for, by each prefix of it, and by command.
     index: Index,
 }
 
@@ -36,7 +36,7 @@ impl Model for TicketBook {
 
     ghost view = { λ book. record { all = book.tickets.items; answered = book.answered.items } };
 
-    ghost invariant = { λ book. AreTickets (record { all = book.tickets.items; answered = book.answered.items }) × (length book.tickets.items ≤ vec_capacity book.answered) × IsDone book.done book.tickets.items × IsIndex book.tickets.items book.index.paths book.index.commands };
+    ghost invariant = { λ book. AreTickets (record { all = book.tickets.items; answered = book.answered.items }) × (length book.tickets.items ≤ vec_capacity book.answered) × IsDone book.done book.tickets.items × IsIndex book.tickets.items book.index.paths book.index.below book.index.commands };
 }
 
 impl TicketBook {
@@ -86,17 +86,16 @@ impl TicketBook {
         ensures { self.new ≡ answer_all (asks_below path.now) at answer self.old }
     {
         let known = self.answered.len();
-        self.index.is_in_order();
         self.index.list_row(path, &mut self.answered);
         lists::answer_from(
             &mut self.tickets,
             &mut self.index,
             &mut self.answered,
+            &mut self.done,
             known,
             at,
             answer,
         );
-        self.done = lists::first_open(self.tickets.as_slice(), self.done);
     }
 
     /// Answers the open tickets that ask for a path that overlaps this one.
@@ -110,11 +109,11 @@ impl TicketBook {
             &mut self.tickets,
             &mut self.index,
             &mut self.answered,
+            &mut self.done,
             known,
             at,
             answer,
         );
-        self.done = lists::first_open(self.tickets.as_slice(), self.done);
     }
 
     /// Answers the open tickets of a command.
@@ -127,11 +126,11 @@ impl TicketBook {
             &mut self.tickets,
             &mut self.index,
             &mut self.answered,
+            &mut self.done,
             known,
             at,
             answer,
         );
-        self.done = lists::first_open(self.tickets.as_slice(), self.done);
     }
 
     /// Answers the ticket of a number, which is open.
@@ -145,18 +144,17 @@ impl TicketBook {
             &mut self.tickets,
             &mut self.index,
             &mut self.answered,
+            &mut self.done,
             known,
             at,
             answer,
         );
-        self.done = lists::first_open(self.tickets.as_slice(), self.done);
     }
 
     /// The lowest number of an open ticket that asks for a path at or below this one.
     pub fn lowest_below(&self, path: &Path) -> Option<u64>
         ensures { result ≡ lowest (asks_below path.now) self.now.all }
     {
-        self.index.is_in_order();
         self.index.lowest_under(path)
     }
 

@@ -3,7 +3,7 @@ ghost use Rattle.std.specs.List.{filter};
 ghost use Rattle.std.specs.Vec.{vec_capacity};
 ghost use Rattle.mat_path.specs.Names.{same_names};
 ghost use Rattle.path_trie.specs.Entries.{is_above, put, value_at};
-ghost use Rattle.ticket_book.specs.ByPath.{all_numbers, is_inside, least, list_or_empty, lower_of, numbers_less, numbers_with};
+ghost use Rattle.ticket_book.specs.ByPath.{all_numbers, is_inside, numbers_less, numbers_with};
 
 use crate::numbers::Numbers;
 use mat_path::{Memory, Path};
@@ -79,18 +79,7 @@ pub(crate) fn drop_number(entries: &mut Trie<Numbers>, alloc: Global, path: &Pat
     put_back(entries, path, numbers);
 }
 
-// Puts the numbers at a path behind others, for which there is room.
-pub(crate) fn list_at(entries: &Trie<Numbers>, path: &Path, numbers: &mut Vec<u64>)
-    requires { length numbers.old.items + length (list_or_empty (value_at path.now entries.now)) ≤ vec_capacity numbers.old }
-    ensures list { numbers.new.items ≡ numbers.old.items ++ list_or_empty (value_at path.now entries.now) }
-    ensures capacity { vec_capacity numbers.new ≡ vec_capacity numbers.old }
-{
-    if let Some(found) = entries.get(path) {
-        found.push_to(numbers);
-    }
-}
-
-// The same of the numbers at the prefixes of a path, and at it.
+// Puts the numbers at the prefixes of a path, and at it, behind others, for which there is room.
 pub(crate) fn list_above(entries: &Trie<Numbers>, path: &Path, numbers: &mut Vec<u64>)
     requires { length numbers.old.items + length (all_numbers (filter (is_above path.now) entries.now)) ≤ vec_capacity numbers.old }
     ensures list { numbers.new.items ≡ numbers.old.items ++ all_numbers (filter (is_above path.now) entries.now) }
@@ -116,39 +105,4 @@ pub(crate) fn list_inside(entries: &Trie<Numbers>, path: &Path, numbers: &mut Ve
         found.push_to(numbers);
         last = at;
     }
-}
-
-// The lower of two numbers, if one is there.
-fn lower_of(number: Option<u64>, other: Option<u64>) -> Option<u64>
-    ensures { result ≡ lower_of number other }
-{
-    match (number, other) {
-        (Some(n), Some(m)) => Some(n.min(m)),
-        (Some(n), None) => Some(n),
-        (None, other) => other,
-    }
-}
-
-// The lowest number at a path.
-fn lowest_at(entries: &Trie<Numbers>, path: &Path) -> Option<u64>
-    ensures { result ≡ least (list_or_empty (value_at path.now entries.now)) }
-{
-    match entries.get(path) {
-        Some(numbers) => numbers.first(),
-        None => None,
-    }
-}
-
-// The lowest number at and below a path: the first of each entry there is looked at.
-pub(crate) fn lowest_under(entries: &Trie<Numbers>, path: &Path) -> Option<u64>
-    ensures { result ≡ lower_of (least (list_or_empty (value_at path.now entries.now))) (least (all_numbers (filter (is_inside path.now) entries.now))) }
-{
-    entries.is_in_order();
-    let mut lowest = lowest_at(entries, path);
-    let mut last = path;
-    'entries: while let Some((at, found)) = entries.next_under(path, last) {
-        lowest = lower_of(lowest, found.first());
-        last = at;
-    }
-    lowest
 }

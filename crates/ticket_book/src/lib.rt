@@ -1,6 +1,7 @@
 //! Floor of books: the tickets, in order of number, and the order in which they were answered.
 #![tactic(auto)]
 
+mod below;
 mod book;
 mod by_command;
 mod by_path;

@@ -26,9 +26,9 @@ fn rest<X>(list: &[X], place: usize) -> &[X]
 // Gives an answer to the ticket of a number, if it is open. It is found by halves.
 fn answer_number(tickets: &mut [Ticket], index: &mut Index, number: u64, at: u64, answer: Answer)
     requires ascending { are_ascending (map number_of tickets.old) ≡ true }
-    requires indexed { IsIndex tickets.old index.old.paths index.old.commands }
+    requires indexed { IsIndex tickets.old index.old.paths index.old.below index.old.commands }
     ensures tickets { tickets.new ≡ map (answered_if (has_number number) at answer) tickets.old }
-    ensures indexed { IsIndex tickets.new index.new.paths index.new.commands }
+    ensures indexed { IsIndex tickets.new index.new.paths index.new.below index.new.commands }
 {
     let place = place_from(tickets, number);
     if place < tickets.len() {
@@ -45,9 +45,9 @@ fn answer_numbered(
     answer: Answer,
 )
     requires ascending { are_ascending (map number_of tickets.old) ≡ true }
-    requires indexed { IsIndex tickets.old index.old.paths index.old.commands }
+    requires indexed { IsIndex tickets.old index.old.paths index.old.below index.old.commands }
     ensures tickets { tickets.new ≡ map (answered_if (is_among numbers.now) at answer) tickets.old }
-    ensures indexed { IsIndex tickets.new index.new.paths index.new.commands }
+    ensures indexed { IsIndex tickets.new index.new.paths index.new.below index.new.commands }
 {
     for number in numbers {
         answer_number(tickets, index, *number, at, answer);
@@ -63,9 +63,9 @@ fn answer_numbers(
     answer: Answer,
 )
     requires ascending { are_ascending (map number_of tickets.old.items) ≡ true }
-    requires indexed { IsIndex tickets.old.items index.old.paths index.old.commands }
+    requires indexed { IsIndex tickets.old.items index.old.paths index.old.below index.old.commands }
     ensures tickets { tickets.new.items ≡ map (answered_if (is_among numbers.now) at answer) tickets.old.items }
-    ensures indexed { IsIndex tickets.new.items index.new.paths index.new.commands }
+    ensures indexed { IsIndex tickets.new.items index.new.paths index.new.below index.new.commands }
 {
     answer_numbered(tickets.as_mut_slice(), index, numbers, at, answer);
 }
@@ -91,25 +91,29 @@ fn sort_from(numbers: &mut Vec<u64>, known: usize)
     sort_tail(numbers.as_mut_slice(), known);
 }
 
-// Puts the numbers from a place on in order, and gives an answer to the open tickets of them. Where they are those of the open tickets that
-// pass a test, these are answered.
+// Puts the numbers from a place on in order, and gives an answer to the open tickets of them; then it moves the place of the first open
+// ticket on. Where the numbers are those of the open tickets that pass a test, these are answered.
 pub(crate) fn answer_from(
     tickets: &mut Vec<Ticket>,
     index: &mut Index,
     numbers: &mut Vec<u64>,
+    done: &mut usize,
     known: usize,
     at: u64,
     answer: Answer,
 )
     requires place { known ≤ length numbers.old.items }
     requires ascending { are_ascending (map number_of tickets.old.items) ≡ true }
-    requires indexed { IsIndex tickets.old.items index.old.paths index.old.commands }
+    requires indexed { IsIndex tickets.old.items index.old.paths index.old.below index.old.commands }
+    requires done { IsDone done.old tickets.old.items }
     ensures answered { (test : TheTicket → Bool) → AreAsOften (drop known numbers.old.items) (due_numbers test tickets.old.items) → (tickets.new.items ≡ map (answered_if test at answer) tickets.old.items) × (numbers.new.items ≡ take known numbers.old.items ++ due_numbers test tickets.old.items) }
-    ensures indexed { IsIndex tickets.new.items index.new.paths index.new.commands }
+    ensures indexed { IsIndex tickets.new.items index.new.paths index.new.below index.new.commands }
+    ensures done { IsDone done.new tickets.new.items }
     ensures capacity { vec_capacity numbers.new ≡ vec_capacity numbers.old }
 {
     sort_from(numbers, known);
     answer_numbers(tickets, index, rest(numbers.as_slice(), known), at, answer);
+    *done = first_open(tickets.as_slice(), *done);
 }
 
 // Whether a ticket is open and its number isn't below one.
@@ -176,7 +180,7 @@ pub(crate) fn ticket_at(tickets: &[Ticket], number: u64) -> Option<&Ticket>
 }
 
 // The place of the first open ticket, or that behind the last ticket, from a place before which none is open.
-pub(crate) fn first_open(tickets: &[Ticket], done: usize) -> usize
+fn first_open(tickets: &[Ticket], done: usize) -> usize
     requires { IsDone done tickets.now }
     ensures { IsDone result tickets.now }
 {

@@ -8,4 +8,4 @@ use Rattle.ticket_book.proofs.lists.answer_numbered.Given as goal
 abbrev pub invariant-loop-number : goal.invariant-loop-number
 invariant-loop-number l =
     (l.tickets ≡ map (answered_if (is_among (take l.number-index l.numbers)) l.at l.answer) l.fn.tickets)
-    × IsIndex l.tickets l.index.paths l.index.commands
+    × IsIndex l.tickets l.index.paths l.index.below l.index.commands

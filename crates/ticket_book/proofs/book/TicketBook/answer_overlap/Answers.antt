@@ -1,11 +1,8 @@
-use Rattle.std.proofs.Common.{arith, rules, ◌∙◌, List, ap, sym, subst}
+use Rattle.std.proofs.Common.{arith, rules, ◌∙◌, ap}
 use Rattle.std.specs.Vec.{vec_capacity}
-use Rattle.mat_model.specs.declared.book.Ticket.{Ticket}
 use Rattle.ticket_book.specs.Asked.{answer_all, asks_over}
-use Rattle.ticket_book.specs.Done.{IsDone}
-use Rattle.ticket_book.proofs.AnswerLemmas.{answered_rules, answered_size, room_for}
-use Rattle.ticket_book.proofs.DoneLemmas.{done_answered}
-use Rattle.ticket_book.proofs.SettleLemmas.{answer_is, known_answer, overlap_often, overlap_size}
+use Rattle.ticket_book.proofs.AnswerLemmas.{room_for}
+use Rattle.ticket_book.proofs.SettleLemmas.{book_answered, overlap_often, overlap_size}
 use Rattle.ticket_book.proofs.book.TicketBook.answer_overlap.Goals as goal
 
 pub list_overlap-requires : goal.list_overlap-requires
@@ -14,34 +11,17 @@ list_overlap-requires c =
     let room = room_for (asks_over c.args.path.now) (record { all = c.self.inside.tickets.items; answered = c.self.inside.answered.items })
     (vec_capacity c.self.inside.answered) c.self.invariant.0 c.self.invariant.1 in omega (arith, size, room)
 
-pub first_open-self-inside-requires : goal.first_open-self-inside-requires
-first_open-self-inside-requires c =
-    let is = known_answer (asks_over c.args.path.now) c.args.at c.args.answer c.self.inside.tickets.items c.answer_from.new.tickets.items c.self.inside.answered.items
-    c.list_overlap.new.numbers.items _ c.answer_from.new.numbers.items c.len-known.result (search rules) c.list_overlap.ensures.list
-    (overlap_often c.args.path.now c.self.inside.index.paths c.self.inside.tickets.items c.is_in_order.ensures c.self.invariant.3.paths) c.answer_from.ensures.answered in
-    subst (λ (ts : List Ticket). IsDone c.self.inside.done ts) (sym c.as_slice.ensures.value)
-    (done_answered (asks_over c.args.path.now) c.args.at c.args.answer c.self.inside.tickets.items c.answer_from.new.tickets.items c.self.inside.done c.self.invariant.2 is.0)
-
 pub invariant_of-self : goal.invariant_of-self
 invariant_of-self c =
-    let is = known_answer (asks_over c.args.path.now) c.args.at c.args.answer c.self.inside.tickets.items c.answer_from.new.tickets.items c.self.inside.answered.items
-    c.list_overlap.new.numbers.items _ c.answer_from.new.numbers.items c.len-known.result (search rules) c.list_overlap.ensures.list
-    (overlap_often c.args.path.now c.self.inside.index.paths c.self.inside.tickets.items c.is_in_order.ensures c.self.invariant.3.paths) c.answer_from.ensures.answered in
-    let size = answered_size (asks_over c.args.path.now) c.args.at c.args.answer c.self.inside.tickets.items c.answer_from.new.tickets.items is.0 in
+    let is = book_answered (asks_over c.args.path.now) c.args.at c.args.answer c.self.inside.tickets.items _ c.self.inside.answered.items _ _ _ _ c.self.invariant.0 (search rules)
+    c.list_overlap.ensures.list (overlap_often c.args.path.now c.self.inside.index.paths c.self.inside.tickets.items c.is_in_order.ensures c.self.invariant.3.paths) c.answer_from.ensures.answered in
+    let size = is.size in
     let enough = c.self.invariant.1 in
-    let room = c.answer_from.ensures.capacity ∙ c.list_overlap.ensures.capacity in (
-      answered_rules (asks_over c.args.path.now) c.args.at c.args.answer c.self.inside.tickets.items c.answer_from.new.tickets.items c.self.inside.answered.items
-          c.answer_from.new.numbers.items c.self.invariant.0 is.0 is.1,
-      omega (arith, size, enough, room),
-      subst (λ (ts : List Ticket). IsDone c.first_open-self-inside.result ts) c.as_slice.ensures.value c.first_open-self-inside.ensures,
-      c.answer_from.ensures.indexed,
-    )
+    let room = c.answer_from.ensures.capacity ∙ c.list_overlap.ensures.capacity in
+    (is.rules, omega (arith, size, enough, room), c.answer_from.ensures.done, c.answer_from.ensures.indexed)
 
 pub returns : goal.returns
 returns c =
-    let is = known_answer (asks_over c.args.path.now) c.args.at c.args.answer c.self.inside.tickets.items c.answer_from.new.tickets.items c.self.inside.answered.items
-    c.list_overlap.new.numbers.items _ c.answer_from.new.numbers.items c.len-known.result (search rules) c.list_overlap.ensures.list
-    (overlap_often c.args.path.now c.self.inside.index.paths c.self.inside.tickets.items c.is_in_order.ensures c.self.invariant.3.paths) c.answer_from.ensures.answered in
-    answer_is (asks_over c.args.path.now) c.args.at c.args.answer c.self.inside.tickets.items c.answer_from.new.tickets.items c.self.inside.answered.items
-    c.answer_from.new.numbers.items is.0 is.1
-    ∙ ap (answer_all (asks_over c.args.path.now) c.args.at c.args.answer) c.self.view_is
+    let is = book_answered (asks_over c.args.path.now) c.args.at c.args.answer c.self.inside.tickets.items _ c.self.inside.answered.items _ _ _ _ c.self.invariant.0 (search rules)
+    c.list_overlap.ensures.list (overlap_often c.args.path.now c.self.inside.index.paths c.self.inside.tickets.items c.is_in_order.ensures c.self.invariant.3.paths) c.answer_from.ensures.answered in
+    is.book ∙ ap (answer_all (asks_over c.args.path.now) c.args.at c.args.answer) c.self.view_is

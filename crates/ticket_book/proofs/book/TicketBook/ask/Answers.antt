@@ -11,6 +11,6 @@ invariant_of-self-2 c = (
       c.self.invariant.0 (search rules) c.requires.open (search rules) (search rules),
   search rules,
   done_asked c.self.inside.tickets.items c.push_reserved.new.self.items c.args.ticket c.self.inside.done c.self.invariant.2 (search rules),
-  subst (λ (ts : List Ticket). IsIndex ts c.add.new.self.paths c.add.new.self.commands) (sym (search rules))
+  subst (λ (ts : List Ticket). IsIndex ts c.add.new.self.paths c.add.new.self.below c.add.new.self.commands) (sym (search rules))
       (c.in_ok-add.ensures c.self.inside.tickets.items c.self.invariant.3 (search rules) c.requires.open),
 )
