@@ -1,5 +1,8 @@
 -- A request that was served is entered: its point goes on, and the entry is legal.
-use Rattle.std.proofs.Common.{◌≡◌, ℕ, ◌+◌, nat_lt, Bool, true, false, ◌&&◌, ◌||◌, ◌==◌, max, [], ◌∷◌, ◌++◌, None, cond, refl, sym, ap, subst, ◌∙◌, map, length, Contains, arith}
+use Rattle.std.proofs.Common.{◌≡◌, ◌≤◌, ℕ, ◌+◌, nat_lt, Bool, true, false, ◌&&◌, ◌||◌, ◌==◌, max, [], ◌∷◌, ◌++◌, None, cond, refl, sym, ap, subst, ◌∙◌, map, length, Contains, arith}
+use Rattle.std.specs.Vec.{vec_capacity}
+use Rattle.std.specs.declared.alloc.Global.{Global}
+use Rattle.std.specs.declared.vec.Vec.{Vec}
 use Rattle.std.proofs.Math.Nat.{le-max_left, max-eq_left, max-eq_right, max_comm}
 use Rattle.std.proofs.Math.Bool.{or-true}
 use Rattle.std.proofs.lemmas.Bool.{both_ways, eq-eqb, ltb-false, ltb-true}
@@ -13,7 +16,6 @@ use Rattle.mat_model.specs.declared.entries.Event.TheVariants as event
 use Rattle.mat_model.specs.declared.limits.Limits.{Limits}
 use Rattle.mat_model.specs.declared.requests.Asked.{Asked}
 use Rattle.mat_model.specs.declared.requests.Asked.TheVariants as asked
-use Rattle.mat_model.specs.Books.{IsBook}
 use Rattle.mat_model.specs.Gate.{Served}
 use Rattle.mat_model.specs.History.{Point, after, is_store_fault, next_number, nodes_of, request_context}
 use Rattle.mat_model.specs.Kept.{may_fail}
@@ -184,26 +186,42 @@ room_asked number moment request said limits raised served point stands same bas
 
 -- ---- a request that was served
 
--- a request was served at a raised moment, and is entered as these
-pub record IsCalled {D K : Type 0} (by : By) (now : ℕ) (request : Asked) (said : Reply) (old raised served new : Parts D K) : Type 0 where
+-- parts with the same books of rows, work and kept rows, and the same counts
+pub record AreSameBooks {D K : Type 0} (old new : Parts D K) : Type 0 where
+  pub rows : new.rows ≡ old.rows
+  pub debris : new.debris ≡ old.debris
+  pub jobs : new.jobs ≡ old.jobs
+  pub kept : new.kept ≡ old.kept
+  pub nodes : new.nodes ≡ old.nodes
+  pub paths : new.paths ≡ old.paths
+
+-- parts before a request is served: their moment is raised, and there may be more room in the history
+pub record IsRaised {D K : Type 0} (now : ℕ) (old raised : Parts D K) : Type 0 where
   pub book : book_in raised ≡ record (book_in old) { now = max old.moment now }
-  pub rows : raised.rows ≡ old.rows
-  pub debris : raised.debris ≡ old.debris
-  pub jobs : raised.jobs ≡ old.jobs
-  pub kept : raised.kept ≡ old.kept
-  pub nodes : raised.nodes ≡ old.nodes
-  pub paths : raised.paths ≡ old.paths
+  pub same : AreSameBooks old raised
   pub base : raised.base ≡ old.base
   pub history : raised.history.items ≡ old.history.items
+  pub capacity : vec_capacity old.history ≤ vec_capacity raised.history
+
+pub raised_by : {D K : Type 0} (now moment : ℕ) (old : Parts D K) (history : Vec Entry Global) → moment ≡ max old.moment now →
+    history.items ≡ old.history.items → vec_capacity old.history ≤ vec_capacity history →
+    IsRaised now old (record old { history = history; moment = moment })
+raised_by now moment old history is items capacity = record {
+  book = ap (λ n. record (book_in old) { now = n }) is;
+  same = record { rows = refl; debris = refl; jobs = refl; kept = refl; nodes = refl; paths = refl };
+  base = refl;
+  history = items;
+  capacity = capacity;
+}
+
+-- a request was served at a raised moment, and is entered as these
+pub record IsCalled {D K : Type 0} (by : By) (now : ℕ) (request : Asked) (said : Reply) (old raised served new : Parts D K) : Type 0 where
+  pub rise : IsRaised now old raised
   pub serves : Serves (old.first + length old.history.items) request said raised served
-  pub new_book : book_in new ≡ book_in served
-  pub new_rows : new.rows ≡ served.rows
-  pub new_debris : new.debris ≡ served.debris
-  pub new_jobs : new.jobs ≡ served.jobs
-  pub new_kept : new.kept ≡ served.kept
-  pub new_nodes : new.nodes ≡ served.nodes
-  pub new_paths : new.paths ≡ served.paths
-  pub new_history : new.history.items ≡ served.history.items ++ record { by = by; now = new.moment; event = event.Asked request; reply = said } ∷ []
+  pub book : book_in new ≡ book_in served
+  pub same : AreSameBooks served new
+  pub history : new.history.items ≡ served.history.items ++ record { by = by; now = new.moment; event = event.Asked request; reply = said } ∷ []
+  pub capacity : vec_capacity new.history ≡ vec_capacity served.history
 
 -- parts with the same rows, debris and jobs stand for the same work state
 pub work_moved : {D K : Type 0} (first second : Parts D K) (work : WorkState) → second.rows ≡ first.rows → second.debris ≡ first.debris →
@@ -221,11 +239,11 @@ module _ {D K : Type 0} (by : By) (now : ℕ) (request : Asked) (said : Reply) (
   the_entry = record { by = by; now = new.moment; event = event.Asked request; reply = said }
 
   raised_moment : new.moment ≡ max point.book.now now
-  raised_moment = ap (λ (b : Book). b.now) called.new_book ∙ called.serves.beside.moment ∙ ap (λ (b : Book). b.now) called.book
+  raised_moment = ap (λ (b : Book). b.now) called.book ∙ called.serves.beside.moment ∙ ap (λ (b : Book). b.now) called.rise.book
       ∙ ap (λ (b : Book). max b.now now) stands.book
 
   raised_book : book_in raised ≡ at_moment new.moment point.book
-  raised_book = called.book
+  raised_book = called.rise.book
       ∙ ap (λ (b : Book). record b { now = max b.now now }) stands.book
       ∙ ap (λ n. record point.book { now = n }) (sym (ap (max point.book.now) raised_moment ∙ raised_twice point.book.now now))
 
@@ -247,35 +265,35 @@ module _ {D K : Type 0} (by : By) (now : ℕ) (request : Asked) (said : Reply) (
       (subst (λ (s : Served). leaves_kept s.reply ≡ true) (sym same_served) (quiet_facts said called.serves.quiet).kept)
 
   work_raised : AreWork raised point.work
-  work_raised = work_moved old raised point.work called.rows called.debris called.jobs stands.work
+  work_raised = work_moved old raised point.work called.rise.same.rows called.rise.same.debris called.rise.same.jobs stands.work
 
   work_given : AreWork new (work_asked request said point.book.rows (book_in served).rows point.work)
-  work_given = work_moved served new _ called.new_rows called.new_debris called.new_jobs
+  work_given = work_moved served new _ called.same.rows called.same.debris called.same.jobs
       (subst (λ r. AreWork served (work_asked request said r (book_in served).rows point.work)) (ap (λ (b : Book). b.rows) raised_book)
       (called.serves.work entered point.work work_raised))
 
   marks_raised : raised.kept.marks ≡ map mark_of point.kept
-  marks_raised = ap (λ k. k.marks) called.kept ∙ stands.kept
+  marks_raised = ap (λ k. k.marks) called.rise.same.kept ∙ stands.kept
 
   paths_raised : raised.paths ≡ row_paths (book_in raised) point.kept
-  paths_raised = called.paths ∙ stands.paths ∙ ap (λ (b : Book). row_paths b point.kept) (sym raised_book)
+  paths_raised = called.rise.same.paths ∙ stands.paths ∙ ap (λ (b : Book). row_paths b point.kept) (sym raised_book)
 
   -- the parts stand for the point behind the entry
   pub call_stands : StandFor new (after point the_entry)
   call_stands = record {
-    book = called.new_book ∙ sym (ap (λ (s : Served). s.book) same_served);
+    book = called.book ∙ sym (ap (λ (s : Served). s.book) same_served);
     work = subst (λ (s : Served). AreWork new (work_asked request s.reply point.book.rows s.book.rows point.work)) (sym same_served) work_given;
-    kept = ap (λ k. k.marks) called.new_kept ∙ called.serves.kept ∙ marks_raised ∙ ap (map mark_of) (sym kept_same);
-    nodes = called.new_nodes ∙ called.serves.nodes entered
-        ∙ ap (λ n. n + nodes_of request said (book_in raised)) (called.nodes ∙ stands.nodes)
+    kept = ap (λ k. k.marks) called.same.kept ∙ called.serves.kept ∙ marks_raised ∙ ap (map mark_of) (sym kept_same);
+    nodes = called.same.nodes ∙ called.serves.nodes entered
+        ∙ ap (λ n. n + nodes_of request said (book_in raised)) (called.rise.same.nodes ∙ stands.nodes)
         ∙ ap (λ (b : Book). point.nodes + nodes_of request said b) raised_book
         ∙ ap (λ n. point.nodes + n) (nodes_moment request said new.moment point.book)
         ∙ ap (λ (s : Served). point.nodes + nodes_of request s.reply point.book) (sym same_served);
-    paths = called.new_paths ∙ called.serves.paths entered point.kept marks_raised paths_raised
+    paths = called.same.paths ∙ called.serves.paths entered point.kept marks_raised paths_raised
         ∙ ap (λ (s : Served). row_paths s.book point.kept) (sym same_served)
         ∙ ap (row_paths (after point the_entry).book) (sym kept_same);
-    history = called.new_history
-        ∙ ap (λ h. h ++ the_entry ∷ []) (ap (λ h. h.items) called.serves.beside.history ∙ called.history ∙ stands.history);
+    history = called.history
+        ∙ ap (λ h. h ++ the_entry ∷ []) (ap (λ h. h.items) called.serves.beside.history ∙ called.rise.history ∙ stands.history);
   }
 
   stands_raised : StandFor raised (record point { book = at_moment new.moment point.book })
@@ -283,15 +301,15 @@ module _ {D K : Type 0} (by : By) (now : ℕ) (request : Asked) (said : Reply) (
     book = raised_book;
     work = work_raised;
     kept = marks_raised;
-    nodes = called.nodes ∙ stands.nodes;
-    paths = called.paths ∙ stands.paths;
-    history = called.history ∙ stands.history;
+    nodes = called.rise.same.nodes ∙ stands.nodes;
+    paths = called.rise.same.paths ∙ stands.paths;
+    history = called.rise.history ∙ stands.history;
   }
 
   room_told : IsRoomy old.base.limits point → full_asked old.base.limits point new.moment request ≡ None
   room_told roomy =
       sym (room_asked (old.first + length old.history.items) new.moment request said old.base.limits raised served point stands_raised same_number
-      (ap (λ b. b.limits) called.base) called.serves roomy (entered_facts said entered).0)
+      (ap (λ b. b.limits) called.rise.base) called.serves roomy (entered_facts said entered).0)
       ∙ (entered_facts said entered).1
 
   -- the entry is legal
@@ -300,7 +318,7 @@ module _ {D K : Type 0} (by : By) (now : ℕ) (request : Asked) (said : Reply) (
   call_legal roomy may numbered within = record {
     follows = record {
       reply = ap (λ (s : Served). s.reply) (sym same_served);
-      moment = ap (λ (b : Book). b.now) called.new_book ∙ ap (λ (s : Served). s.book.now) (sym same_served);
+      moment = ap (λ (b : Book). b.now) called.book ∙ ap (λ (s : Served). s.book.now) (sym same_served);
       number = numbered;
       order = tt;
     };
@@ -314,78 +332,38 @@ module _ {D K : Type 0} (by : By) (now : ℕ) (request : Asked) (said : Reply) (
 
 -- ---- a request that isn't entered
 
--- want of memory changes nothing
-pub want_serves : {D K : Type 0} (number : ℕ) (request : Asked) (old : Parts D K) → Serves number request reply.NoMemory old old
-want_serves number request old = record {
-  quiet = refl;
-  beside = same_beside old;
-  unchanged = λ _. same_parts old;
-  served = λ is. no is;
-  work = λ is. no is;
-  kept = refl;
-  nodes = λ is. no is;
-  paths = λ is. no is;
-  room = λ is. no (sym is);
-}
-
 -- parts at a raised moment, which a request left as they were, stand for their point again once they have their own moment
-pub still_stands : {D K : Type 0} (moment : ℕ) (old raised served new : Parts D K) → book_in raised ≡ record (book_in old) { now = moment } →
-    raised.rows ≡ old.rows → raised.debris ≡ old.debris → raised.jobs ≡ old.jobs → raised.kept ≡ old.kept → raised.nodes ≡ old.nodes →
-    raised.paths ≡ old.paths → raised.history.items ≡ old.history.items → IsUnchanged raised served →
-    book_in new ≡ record (book_in served) { now = old.moment } → new.rows ≡ served.rows → new.debris ≡ served.debris → new.jobs ≡ served.jobs →
-    new.kept ≡ served.kept → new.nodes ≡ served.nodes → new.paths ≡ served.paths → new.history.items ≡ served.history.items →
+pub still_stands : {D K : Type 0} (now : ℕ) (old raised served new : Parts D K) → IsRaised now old raised → IsUnchanged raised served →
+    book_in new ≡ record (book_in served) { now = old.moment } → AreSameBooks served new → new.history.items ≡ served.history.items →
     StandsStill old new
-still_stands moment old raised served new book rows debris jobs kept nodes paths history same book_2 rows_2 debris_2 jobs_2 kept_2 nodes_2 paths_2 history_2
-    point stands = record {
-      book = whole ∙ stands.book;
-      work = record {
-        stocks = λ stock among. stands.work.stocks stock (subst (λ r. Contains r stock) (rows_2 ∙ same.rows ∙ rows) among);
-        jobs = ap jobs_of (jobs_2 ∙ same.jobs ∙ jobs) ∙ stands.work.jobs;
-        cleaned = λ running among. stands.work.cleaned running (subst (λ j. Contains j running) (jobs_2 ∙ same.jobs ∙ jobs) among);
-        debris = ap (λ d. d.list) debris_2 ∙ same.debris ∙ ap (λ d. d.list) debris ∙ stands.work.debris;
-      };
-      kept = ap (λ k. k.marks) kept_2 ∙ same.kept ∙ ap (λ k. k.marks) kept ∙ stands.kept;
-      nodes = nodes_2 ∙ same.nodes ∙ nodes ∙ stands.nodes;
-      paths = paths_2 ∙ same.paths ∙ paths ∙ stands.paths;
-      history = history_2 ∙ ap (λ h. h.items) same.beside.history ∙ history ∙ stands.history;
-    }
-  where
-    whole : book_in new ≡ book_in old
-    whole = book_2 ∙ ap (λ (b : Book). record b { now = old.moment }) (same.book ∙ book)
+still_stands now old raised served new is unchanged book same history point stands = record {
+  book = book ∙ ap (λ (b : Book). record b { now = old.moment }) (unchanged.book ∙ is.book) ∙ stands.book;
+  work = record {
+    stocks = λ stock among. stands.work.stocks stock (subst (λ r. Contains r stock) (same.rows ∙ unchanged.rows ∙ is.same.rows) among);
+    jobs = ap jobs_of (same.jobs ∙ unchanged.jobs ∙ is.same.jobs) ∙ stands.work.jobs;
+    cleaned = λ running among.
+        stands.work.cleaned running (subst (λ j. Contains j running) (same.jobs ∙ unchanged.jobs ∙ is.same.jobs) among);
+    debris = ap (λ d. d.list) same.debris ∙ unchanged.debris ∙ ap (λ d. d.list) is.same.debris ∙ stands.work.debris;
+  };
+  kept = ap (λ k. k.marks) same.kept ∙ unchanged.kept ∙ ap (λ k. k.marks) is.same.kept ∙ stands.kept;
+  nodes = same.nodes ∙ unchanged.nodes ∙ is.same.nodes ∙ stands.nodes;
+  paths = same.paths ∙ unchanged.paths ∙ is.same.paths ∙ stands.paths;
+  history = history ∙ ap (λ h. h.items) unchanged.beside.history ∙ is.history ∙ stands.history;
+}
 
 -- a limit is told where a request would pass it, whether or not it is entered
 pub full_told : {D K : Type 0} (now : ℕ) (request : Asked) (said : Reply) (old raised served : Parts D K) (point : Point) →
-    book_in raised ≡ record (book_in old) { now = max old.moment now } → raised.rows ≡ old.rows → raised.debris ≡ old.debris →
-    raised.jobs ≡ old.jobs → raised.kept ≡ old.kept → raised.nodes ≡ old.nodes → raised.paths ≡ old.paths → raised.base ≡ old.base →
-    raised.history.items ≡ old.history.items → Serves (old.first + length old.history.items) request said raised served → StandFor old point →
+    IsRaised now old raised → Serves (old.first + length old.history.items) request said raised served → StandFor old point →
     IsRoomy old.base.limits point → is_want said ≡ false → full_of said ≡ full_asked old.base.limits point (max point.book.now now) request
-full_told now request said old raised served point book rows debris jobs kept nodes paths base history serves stands roomy not_want =
+full_told now request said old raised served point is serves stands roomy not_want =
     room_asked (old.first + length old.history.items) (max point.book.now now) request said old.base.limits raised served point (record {
-      book = book ∙ ap (λ (b : Book). record b { now = max b.now now }) stands.book
+      book = is.book ∙ ap (λ (b : Book). record b { now = max b.now now }) stands.book
           ∙ ap (λ n. record point.book { now = n }) (sym (raised_twice point.book.now now));
-      work = work_moved old raised point.work rows debris jobs stands.work;
-      kept = ap (λ k. k.marks) kept ∙ stands.kept;
-      nodes = nodes ∙ stands.nodes;
-      paths = paths ∙ stands.paths;
-      history = history ∙ stands.history;
+      work = work_moved old raised point.work is.same.rows is.same.debris is.same.jobs stands.work;
+      kept = ap (λ k. k.marks) is.same.kept ∙ stands.kept;
+      nodes = is.same.nodes ∙ stands.nodes;
+      paths = is.same.paths ∙ stands.paths;
+      history = is.history ∙ stands.history;
     })
     (ap (λ (b : Book). b.first + length old.history.items) stands.book ∙ ap (λ h. point.book.first + length h) stands.history)
-    (ap (λ b. b.limits) base) serves roomy not_want
-
--- a book's rules don't ask for its moment
-pub rules_raised : (next moment : ℕ) (book : Book) → IsBook next book → IsBook next (record book { now = moment })
-rules_raised next moment book rules = record {
-  apart = rules.apart;
-  sums = rules.sums;
-  once = rules.once;
-  few = rules.few;
-  state = rules.state;
-  waits = rules.waits;
-  ordered = rules.ordered;
-  soft = rules.soft;
-  holds = rules.holds;
-  ascending = rules.ascending;
-  below = rules.below;
-  asking = rules.asking;
-  covered = rules.covered;
-}
+    (ap (λ b. b.limits) is.base) serves roomy not_want

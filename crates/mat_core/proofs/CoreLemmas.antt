@@ -13,6 +13,7 @@ use Rattle.hall_lock.specs.declared.By.{By}
 use Rattle.mat_model.specs.History.{Point, after, after_all, opened}
 use Rattle.mat_model.specs.Legal.{IsEach, IsLegalEntry, IsNumbered, MayAsk, end_of_time, is_of, note_of, note_of_end}
 use Rattle.mat_model.specs.WorkState.{Job}
+use Rattle.mat_model.specs.Room.{spent}
 use Rattle.model_laws.specs.PointRules.{GoesOn, IsPoint}
 use Rattle.model_laws.specs.RoomRules.{IsRoomy}
 use Rattle.model_laws.specs.RowRules.{served_at}
@@ -29,9 +30,11 @@ use Rattle.core_laws.proofs.StoreMoves.{entry_leaves}
 use Rattle.mat_core.specs.Books.{StandFor, book_in}
 use Rattle.mat_core.specs.Cores.{AreDevices, IsCore, IsSeen, IsSound, Seen, ToldDisk, ToldStore, each_stamp, point_in, seen_of}
 use Rattle.mat_core.specs.Asks.{entry_of, request_asks}
+use Rattle.mat_core.specs.Rooms.{HasReserves, spent_in}
 use Rattle.mat_core.specs.Served.{AreSameDevices, StandsStill, is_entered, is_quiet}
 use Rattle.mat_core.specs.declared.parts.Parts.{Parts}
 use Rattle.mat_core.proofs.CallLemmas.{quiet_facts}
+use Rattle.mat_core.proofs.ServeLemmas.{spent_same}
 
 -- entries that are legal go on rightly
 each_goes_on : (limits : Limits) (point : Point) (entries : List Entry) → IsEach (IsLegalEntry limits) point entries → IsEach GoesOn point entries
@@ -89,16 +92,16 @@ module _ {D K : Type 0} (told : D → ToldDisk) (stored : K → ToldStore) (seen
           (sym (after_all-push (opened seen.base.opening.value) seen.history entry)) later_devices;
     }
 
--- a core's number of the next entry is one of 64 bits
+-- a core's number of the next entry is one of 64 bits, and so is what it has spent
 pub core_bound : {D K : Type 0} (told : D → ToldDisk) (stored : K → ToldStore) (parts : Parts D K) → IsCore told stored parts →
-    parts.first + length parts.history.items < 2 ^ 64
+    parts.first + spent_in parts + 2 < 2 ^ 64
 core_bound told stored parts core =
     let point = point_in (seen_of parts) in
     let roomy = seen_roomy told stored (seen_of parts) core.seen in
     let first : parts.first ≡ length parts.base.opening.value.rows =
     ap (λ (b : Book). b.first) core.stands.book ∙ first_all (opened parts.base.opening.value) parts.history.items in
-    let entries : length parts.history.items ≡ length point.history = ap length core.stands.history in
-    omega (arith, first, entries, roomy.history, core.seen.within, core.seen.limits.rows, core.seen.limits.history)
+    let spent : spent_in parts ≡ spent point = spent_same parts point core.stands in
+    omega (arith, first, spent, roomy.history, core.seen.within, core.seen.limits.rows, core.seen.limits.history)
 
 -- the book of a core's parts keeps the rules of a book
 pub core_rules : {D K : Type 0} (told : D → ToldDisk) (stored : K → ToldStore) (parts : Parts D K) → IsCore told stored parts →
@@ -113,8 +116,10 @@ pub core_entered : {D K : Type 0} (told : D → ToldDisk) (stored : K → ToldSt
     IsCore told stored old → entry.event ≡ event.Asked request → IsLegalEntry old.base.limits (point_in (seen_of old)) entry →
     leaves_kept (served_at (point_in (seen_of old)) entry).reply ≡ true → note_of entry.reply ≡ None →
     seen_of new ≡ record (seen_of old) { history = old.history.items ++ entry ∷ [] } → StandFor new (after (point_in (seen_of old)) entry) →
-    IsCore told stored new
-core_entered told stored old new entry request core asks legal kept noted same stands = record {
+    HasReserves new → new.lost ≡ old.lost → IsCore told stored new
+core_entered {D} {K} told stored old new entry request core asks legal kept noted same stands reserves lost = record {
+  reserves = reserves;
+  lost = lost ∙ core.lost ∙ ap (λ (s : Seen D K). s.base.opening.value.lost) (sym same);
   seen = subst (IsSeen told stored) (sym same) (seen_entered told stored (seen_of old) core.seen entry request asks legal kept noted);
   stands = subst (StandFor new)
       (sym (ap point_in same ∙ after_all-push (opened old.base.opening.value) old.history.items entry)) stands;
@@ -122,8 +127,10 @@ core_entered told stored old new entry request core asks legal kept noted same s
 
 -- and where nothing is entered
 pub core_stays : {D K : Type 0} (told : D → ToldDisk) (stored : K → ToldStore) (old new : Parts D K) → IsCore told stored old →
-    seen_of new ≡ seen_of old → StandsStill old new → IsCore told stored new
-core_stays told stored old new core same still = record {
+    seen_of new ≡ seen_of old → StandsStill old new → HasReserves new → new.lost ≡ old.lost → IsCore told stored new
+core_stays {D} {K} told stored old new core same still reserves lost = record {
+  reserves = reserves;
+  lost = lost ∙ core.lost ∙ ap (λ (s : Seen D K). s.base.opening.value.lost) (sym same);
   seen = subst (IsSeen told stored) (sym same) core.seen;
   stands = subst (λ s. StandFor new (point_in s)) (sym same) (still (point_in (seen_of old)) core.stands);
 }
@@ -144,7 +151,7 @@ module _ {D K : Type 0} (told : D → ToldDisk) (stored : K → ToldStore) (old 
     IsNumbered point (entry_of by new.moment request said) → nat_lt now end_of_time ≡ true →
     IsLegalEntry old.base.limits point (entry_of by new.moment request said))
     (history : new.history.items ≡ cond (is_entered said) (old.history.items ++ entry_of by new.moment request said ∷ []) old.history.items)
-    (devices : AreSameDevices old new) (unchanged : is_entered said ≡ false → StandsStill old new)
+    (devices : AreSameDevices old new) (unchanged : is_entered said ≡ false → StandsStill old new) (reserves : HasReserves new)
     (numbered : by.number ≡ count_by (is_of by.caller) old.history.items) (may : MayAsk (request_asks request))
     (within : nat_lt now end_of_time ≡ true) where
   -- a core keeps its rules through a request
@@ -160,11 +167,11 @@ module _ {D K : Type 0} (told : D → ToldDisk) (stored : K → ToldStore) (old 
             (seen_is new (record (seen_of old) { history = old.history.items ++ entry_of by new.moment request said ∷ [] }) devices.base
             (history ∙ ap (λ b. cond b (old.history.items ++ entry_of by new.moment request said ∷ []) old.history.items) is)
             devices.disk devices.keeper)
-            (stands is point core.stands)
+            (stands is point core.stands) reserves devices.lost
         | false ↦ λ is. core_stays told stored old new core
             (seen_is new (seen_of old) devices.base
             (history ∙ ap (λ b. cond b (old.history.items ++ entry_of by new.moment request said ∷ []) old.history.items) is)
-            devices.disk devices.keeper) (unchanged is)
+            devices.disk devices.keeper) (unchanged is) reserves devices.lost
       ] refl
 
   -- the moment of its entry is the book's

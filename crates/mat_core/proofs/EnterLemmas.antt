@@ -31,7 +31,7 @@ use Rattle.mat_core.specs.Enters.{is_takeover}
 use Rattle.mat_core.specs.Rooms.{spent_in}
 use Rattle.mat_core.specs.Served.{IsBesideBook, Serves, full_of, is_entered, is_quiet}
 use Rattle.mat_core.specs.declared.parts.Parts.{Parts}
-use Rattle.mat_core.proofs.ServeLemmas.{book_serves, spent_same}
+use Rattle.mat_core.proofs.ServeLemmas.{beside_reserves, book_serves, spent_same}
 
 -- ---- those that go
 
@@ -183,12 +183,14 @@ waits_serves {D} {K} number command state soft refuse old new waits same beside 
     debris = ap (λ d. d.list) beside.debris;
     jobs = beside.jobs;
     kept = ap (λ k. k.marks) beside.kept;
+    reserves = beside_reserves old new beside.debris beside.jobs beside.kept;
     nodes = beside.nodes;
     paths = beside.paths;
   };
   served = λ entered. no entered;
   work = λ entered. no entered;
   kept = ap (λ k. k.marks) beside.kept;
+  reserves = beside_reserves old new beside.debris beside.jobs beside.kept;
   nodes = λ entered. no entered;
   paths = λ entered. no entered;
   room = λ _ point context stands roomy. sym (measured point stands);

@@ -39,7 +39,7 @@ use Rattle.mat_core.specs.Grants.{IsGranted, granted, with_open}
 use Rattle.mat_core.specs.Rooms.{full_grant, spent_in}
 use Rattle.mat_core.specs.Served.{Serves, full_of, is_entered, is_quiet}
 use Rattle.mat_core.specs.declared.parts.Parts.{Parts}
-use Rattle.mat_core.proofs.ServeLemmas.{same_beside, same_parts, skip, spent_same, work_stays}
+use Rattle.mat_core.proofs.ServeLemmas.{beside_reserves, same_beside, same_parts, same_reserves, skip, spent_same, work_stays}
 
 no : {X : Type 0} → false ≡ true → X
 no is = absurd (both_ways false refl is)
@@ -221,6 +221,7 @@ full_serves number command path place asks request said which old facts served f
   served = λ is. no is;
   work = λ is. no is;
   kept = refl;
+  reserves = same_reserves old;
   nodes = λ is. no is;
   paths = λ is. no is;
   room = λ _ point context stands roomy.
@@ -241,6 +242,7 @@ grant_serves {D} {K} number command path place asks request said old new facts s
   served = λ _ context. ap (λ b. record { reply = said; book = b }) is.book ∙ sym (served context);
   work = λ _ work are. subst (AreWork new) (sym (stays work)) (moved work are);
   kept = ap (λ k. k.marks) is.kept;
+  reserves = beside_reserves old new is.debris is.jobs is.kept;
   nodes = λ _. is.nodes ∙ omega (arith, facts.nodes (book_in old));
   paths = λ _ kept marks counted. is.paths ∙ counted
       ∙ sym (paths_used place old.moment (book_in old).rows kept)

@@ -1,5 +1,5 @@
 -- A request that is refused, or that only looks.
-use Rattle.std.proofs.Common.{◌≡◌, ℕ, ◌+◌, ◌≤◌, nat_lt, Bool, true, false, ◌&&◌, List, [], ◌∷◌, Option, Some, None, cond, refl, sym, ap, subst, ◌∙◌, le_trans, le_refl, filter, Contains, count_by, length, arith}
+use Rattle.std.proofs.Common.{◌≡◌, ℕ, ◌+◌, ◌*◌, ◌≤◌, nat_lt, Bool, true, false, ◌&&◌, List, [], ◌∷◌, Option, Some, None, cond, refl, sym, ap, subst, ◌∙◌, le_trans, le_refl, filter, Contains, count_by, length, arith}
 use Rattle.std.proofs.lemmas.List.{length-map}
 use Rattle.std.specs.List.{list_all, list_any}
 use Rattle.std.proofs.lemmas.Bool.{both_ways, le-ltb}
@@ -23,8 +23,8 @@ use Rattle.mat_model.specs.WorkState.{WayOf, WorkState, cleans_all, condemned_al
 use Rattle.model_laws.specs.RoomRules.{IsRoomy}
 use Rattle.model_laws.proofs.Idle.{has_one, none_removed}
 use Rattle.mat_core.specs.Books.{AreWork, StandFor, book_in}
-use Rattle.mat_core.specs.Rooms.{if_room, spent_in}
-use Rattle.mat_core.specs.Served.{IsBeside, IsBesideBook, IsUnchanged, Serves, full_of, is_entered, is_quiet, leaves_book}
+use Rattle.mat_core.specs.Rooms.{KeepsReserves, if_room, spent_in}
+use Rattle.mat_core.specs.Served.{IsBeside, IsBesideBook, IsUnchanged, Serves, full_of, is_entered, is_quiet, is_want, leaves_book}
 use Rattle.mat_core.specs.declared.parts.Parts.{Parts}
 
 -- ---- replies
@@ -178,7 +178,19 @@ room_for limits old new point request said stands roomy waits ways nodes rows ti
 -- ---- requests
 
 pub same_beside : {D K : Type 0} (parts : Parts D K) → IsBeside parts parts
-same_beside parts = record { base = refl; first = refl; moment = refl; history = refl; disk = refl; keeper = refl }
+same_beside parts = record { base = refl; first = refl; moment = refl; history = refl; lost = refl; disk = refl; keeper = refl }
+
+-- what is reserved stays where nothing changes, and where the book alone changes
+pub same_reserves : {D K : Type 0} (parts : Parts D K) → KeepsReserves parts parts
+same_reserves parts = record { jobs = refl; debris = λ room. room; places = refl }
+
+pub beside_reserves : {D K : Type 0} (old new : Parts D K) → new.debris ≡ old.debris → new.jobs ≡ old.jobs → new.kept ≡ old.kept →
+    KeepsReserves old new
+beside_reserves old new debris jobs kept = record {
+  jobs = ap jobs_of jobs;
+  debris = λ room. subst (λ d. 2 * length old.jobs ≤ d.spare) (sym debris) room;
+  places = ap (λ k. k.reserved) kept;
+}
 
 pub same_parts : {D K : Type 0} (parts : Parts D K) → IsUnchanged parts parts
 same_parts parts = record {
@@ -188,8 +200,31 @@ same_parts parts = record {
   debris = refl;
   jobs = refl;
   kept = refl;
+  reserves = same_reserves parts;
   nodes = refl;
   paths = refl;
+}
+
+-- whether a reply is want of memory doesn't depend on room
+pub if_room_wants : {D K : Type 0} (parts : Parts D K) (entries : ℕ) (said : Reply) → is_want said ≡ false → is_want (if_room parts entries said) ≡ false
+if_room_wants parts entries said no_want =
+    elim (nat_lt parts.base.limits.history (spent_in parts + entries)) as (λ b. is_want (cond b (reply.Full limit.History) said) ≡ false)
+    [ true ↦ refl | false ↦ no_want ]
+
+-- want of memory leaves all as it was
+pub unchanged_serves : {D K : Type 0} (number : ℕ) (request : Asked) (old new : Parts D K) → IsUnchanged old new →
+    Serves number request reply.NoMemory old new
+unchanged_serves number request old new same = record {
+  quiet = refl;
+  beside = same.beside;
+  unchanged = λ _. same;
+  served = λ is. no is;
+  work = λ is. no is;
+  kept = same.kept;
+  reserves = same.reserves;
+  nodes = λ is. no is;
+  paths = λ is. no is;
+  room = λ is. no (sym is);
 }
 
 -- a request with a reply that leaves the book, where there is room for its entries
@@ -207,6 +242,7 @@ refusal_serves {D} {K} number entries request said old leaves wants none served 
         served = λ entered. no entered;
         work = λ entered. no entered;
         kept = refl;
+        reserves = same_reserves old;
         nodes = λ entered. no entered;
         paths = λ entered. no entered;
         room = λ _ point context stands roomy. sym (measured true is point context stands roomy);
@@ -221,6 +257,7 @@ refusal_serves {D} {K} number entries request said old leaves wants none served 
             (sym (work_stays request said (book_in old).rows (book_in old).rows work (own_stamps (book_in old).rows) facts.cleaning
             (facts.ways request (book_in old).rows work.ways))) are;
         kept = refl;
+        reserves = same_reserves old;
         nodes = λ _. omega (arith, none (book_in old));
         paths = λ _ kept marks counted. counted;
         room = λ _ point context stands roomy. facts.full ∙ sym (measured false is point context stands roomy);
@@ -251,6 +288,7 @@ lack_serves {D} {K} number entries request old wants lacks = record {
   served = λ entered. no entered;
   work = λ entered. no entered;
   kept = refl;
+  reserves = same_reserves old;
   nodes = λ entered. no entered;
   paths = λ entered. no entered;
   room = λ _ point context stands roomy. sym (measured point context stands (serve_now number context request (book_in old)) (wants context));
@@ -286,6 +324,7 @@ book_serves number request said old new quiet entered full waits cleaning ways n
   served = λ _ context. served context;
   work = λ _ work are. subst (AreWork new) (sym (stays work)) (moved work are);
   kept = ap (λ k. k.marks) beside.kept;
+  reserves = beside_reserves old new beside.debris beside.jobs beside.kept;
   nodes = λ _. beside.nodes ∙ omega (arith, none (book_in old));
   paths = λ _ kept marks counted. beside.paths ∙ counted
       ∙ ap (λ r. row_paths (record (book_in new) { rows = rows_of r }) kept) (sym beside.rows);

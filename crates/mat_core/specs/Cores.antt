@@ -16,6 +16,7 @@ use Rattle.core_laws.specs.Loans.{AreLoans}
 use Rattle.core_laws.specs.Stored.{AreCounted, IsStore}
 use Rattle.core_laws.specs.Whole.{IsWhole}
 use Rattle.mat_core.specs.Books.{StandFor}
+use Rattle.mat_core.specs.Rooms.{HasReserves}
 use Rattle.mat_core.specs.declared.base.Base.{Base}
 use Rattle.mat_core.specs.declared.parts.Parts.{Parts}
 
@@ -103,7 +104,10 @@ pub record IsSeen {D K : Type 0} (told : D → ToldDisk) (stored : K → ToldSto
 abbrev pub seen_of : {D K : Type 0} → Parts D K → Seen D K
 seen_of parts = record { base = parts.base; history = parts.history.items; disk = parts.disk; keeper = parts.keeper }
 
--- what a core keeps: that, and its parts stand for its point
+-- what a core keeps: that, its parts stand for its point, and they have reserved what is needed later
 pub record IsCore {D K : Type 0} (told : D → ToldDisk) (stored : K → ToldStore) (parts : Parts D K) : Type 0 where
   pub seen : IsSeen told stored (seen_of parts)
   pub stands : StandFor parts (point_in (seen_of parts))
+  pub reserves : HasReserves parts
+  -- they have the paths that were lost at the opening
+  pub lost : parts.lost ≡ parts.base.opening.value.lost

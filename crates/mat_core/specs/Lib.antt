@@ -6,3 +6,4 @@ pub mod Enters
 pub mod Grants
 pub mod Rooms
 pub mod Polls
+pub mod Events

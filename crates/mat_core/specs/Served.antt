@@ -13,6 +13,7 @@ use Rattle.mat_model.specs.WorkState.{WorkState, work_asked}
 use Rattle.model_laws.specs.RoomRules.{IsRoomy}
 use Rattle.kept_book.specs.Marks.{mark_of}
 use Rattle.mat_core.specs.Books.{AreWork, StandFor, book_in}
+use Rattle.mat_core.specs.Rooms.{KeepsReserves}
 use Rattle.mat_core.specs.declared.parts.Parts.{Parts}
 
 -- the limit that a reply says is reached, if it says that
@@ -62,6 +63,7 @@ pub record IsBeside {D K : Type 0} (old new : Parts D K) : Type 0 where
   pub first : new.first ≡ old.first
   pub moment : new.moment ≡ old.moment
   pub history : new.history ≡ old.history
+  pub lost : new.lost ≡ old.lost
   pub disk : new.disk ≡ old.disk
   pub keeper : new.keeper ≡ old.keeper
 
@@ -82,6 +84,7 @@ pub record IsUnchanged {D K : Type 0} (old new : Parts D K) : Type 0 where
   pub debris : new.debris.list ≡ old.debris.list
   pub jobs : new.jobs ≡ old.jobs
   pub kept : new.kept.marks ≡ old.kept.marks
+  pub reserves : KeepsReserves old new
   pub nodes : new.nodes ≡ old.nodes
   pub paths : new.paths ≡ old.paths
 
@@ -96,6 +99,7 @@ pub record Serves {D K : Type 0} (number : ℕ) (request : Asked) (said : Reply)
   pub work : is_entered said ≡ true → (work : WorkState) → AreWork old work →
       AreWork new (work_asked request said (book_in old).rows (book_in new).rows work)
   pub kept : new.kept.marks ≡ old.kept.marks
+  pub reserves : KeepsReserves old new
   pub nodes : is_entered said ≡ true → new.nodes ≡ old.nodes + nodes_of request said (book_in old)
   pub paths : is_entered said ≡ true → (kept : List KeptRow) → old.kept.marks ≡ map mark_of kept → old.paths ≡ row_paths (book_in old) kept →
       new.paths ≡ row_paths (book_in new) kept
@@ -105,6 +109,7 @@ pub record Serves {D K : Type 0} (number : ℕ) (request : Asked) (said : Reply)
 -- what a call that calls no device leaves of the rest
 pub record AreSameDevices {D K : Type 0} (old new : Parts D K) : Type 0 where
   pub base : new.base ≡ old.base
+  pub lost : new.lost ≡ old.lost
   pub disk : new.disk ≡ old.disk
   pub keeper : new.keeper ≡ old.keeper
 

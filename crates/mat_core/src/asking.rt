@@ -1,8 +1,10 @@
 // A request as the history keeps it.
-ghost use Rattle.std.specs.Prelude.{◌≡◌, IfOk, true, false};
+ghost use Rattle.std.specs.Prelude.{◌≡◌, IfOk, is_ok, true, false};
+ghost use Rattle.std.specs.Option.{is_some};
 ghost use Rattle.mat_digest.specs.Digests.{digest_of};
 ghost use Rattle.mat_tree.specs.Trees.{file_sum};
 ghost use Rattle.mat_core.specs.Asks.{request_asks};
+ghost use Rattle.mat_core.specs.Enters.{leaving};
 ghost use Rattle.mat_core.specs.Served.{is_quiet};
 
 use mat_digest::Digest;
@@ -10,9 +12,10 @@ use mat_model::{Asked, Reply, Request};
 use mat_path::Memory;
 use mat_tree::{Kind, Sum};
 
-/// A request without the bytes of its file.
+/// A request without the bytes of its file. That of a leave takes no memory.
 pub fn asked_of(request: &Request) -> Result<Asked, Memory>
-    ensures { IfOk result (λ asked. asked ≡ request_asks request.now) }
+    ensures asks { IfOk result (λ asked. asked ≡ request_asks request.now) }
+    ensures leave { is_some (leaving (request_asks request.now)) ≡ true → is_ok result ≡ true }
 {
     Ok(match request {
         Request::Enter {

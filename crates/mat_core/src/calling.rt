@@ -8,10 +8,14 @@ ghost use Rattle.mat_core.specs.Asks.{entry_of, request_asks};
 ghost use Rattle.mat_model.specs.Books.{IsBook};
 ghost use Rattle.mat_core.specs.Books.{StandFor, book_in};
 ghost use Rattle.mat_model.specs.Room.{full_asked};
+ghost use Rattle.std.specs.Option.{is_some};
+ghost use Rattle.mat_core.specs.Enters.{is_free_leave, leaving};
+ghost use Rattle.mat_core.specs.Rooms.{HasReserves, spent_in};
 ghost use Rattle.mat_core.specs.Served.{AreSameDevices, Serves, StandsStill, full_of, is_entered, is_quiet, is_want};
 
 use crate::asking::{asked_of, once_more};
 use crate::parts::Parts;
+use crate::room::has_place;
 use hall_lock::By;
 use mat_model::{Entry, Event, Reply, Request};
 
@@ -34,7 +38,8 @@ impl<D, K> Parts<D, K> {
     fn serve(&mut self, request: Request) -> Reply
         requires bound { self.old.first + length self.old.history.items < 2 ^ 64 }
         requires rules { IsBook (self.old.first + length self.old.history.items) (book_in self.old) }
-        ensures { Serves (self.old.first + length self.old.history.items) (request_asks request) result self.old self.new }
+        ensures served { Serves (self.old.first + length self.old.history.items) (request_asks request) result self.old self.new }
+        ensures leave { is_some (leaving (request_asks request)) ≡ true → is_want result ≡ false }
     {
         let number = self.first + self.history.len() as u64;
         match request {
@@ -54,19 +59,34 @@ impl<D, K> Parts<D, K> {
         }
     }
 
-    /// Serves a request that calls no device, and enters it in the history.
+    // Whether a request is the leave of a command that may go. Takes no memory.
+    fn is_free_leave(&self, request: &Request) -> bool
+        ensures { result ≡ is_free_leave (request_asks request.now) (book_in self.now) }
+    {
+        match request {
+            Request::Leave { command } => self.may_leave(*command),
+            _ => false,
+        }
+    }
+
+    /// Serves a request that calls no device, and enters it in the history. The leave of a command that may go takes no memory.
     pub fn call(&mut self, by: By, now: u64, request: Request) -> Reply
-        requires bound { self.old.first + length self.old.history.items < 2 ^ 64 }
+        requires bound { self.old.first + spent_in self.old + 2 < 2 ^ 64 }
         requires rules { IsBook (self.old.first + length self.old.history.items) (book_in self.old) }
+        requires reserves { HasReserves self.old }
         ensures quiet { is_quiet result ≡ true }
         ensures stands { is_entered result ≡ true → (point : Point) → StandFor self.old point → StandFor self.new (after point (entry_of by self.new.moment request result)) }
         ensures legal { is_entered result ≡ true → (point : Point) → StandFor self.old point → IsRoomy self.old.base.limits point → MayAsk (request_asks request) → IsNumbered point (entry_of by self.new.moment request result) → nat_lt now end_of_time ≡ true → IsLegalEntry self.old.base.limits point (entry_of by self.new.moment request result) }
         ensures history { self.new.history.items ≡ (if is_entered result then self.old.history.items ++ entry_of by self.new.moment request result ∷ [] else self.old.history.items) }
         ensures devices { AreSameDevices self.old self.new }
         ensures unchanged { is_entered result ≡ false → StandsStill self.old self.new }
+        ensures reserves { HasReserves self.new }
         ensures full { is_want result ≡ false → (point : Point) → StandFor self.old point → IsRoomy self.old.base.limits point → full_of result ≡ full_asked self.old.base.limits point (max point.book.now now) (request_asks request) }
+        ensures leave { is_free_leave (request_asks request) (book_in self.old) ≡ true → is_want result ≡ false }
     {
-        if self.history.reserve(1).is_err() {
+        let wants = !self.is_free_leave(&request);
+        let entries = self.owed() + 2;
+        if !has_place(&mut self.history, wants, entries) {
             return Reply::NoMemory;
         }
         let Ok(asked) = asked_of(&request) else {

@@ -3,13 +3,15 @@ ghost use Rattle.std.specs.Prelude.{◌≡◌, ◌≤◌, ◌+◌, find, length}
 ghost use Rattle.std.specs.Option.{option_copied, option_map};
 ghost use Rattle.mat_model.specs.WorkState.{stamp_of};
 ghost use Rattle.row_book.specs.Stocks.{row_of};
-ghost use Rattle.mat_core.specs.Polls.{poll_in};
+ghost use Rattle.job_book.specs.Jobs.{job_of};
+ghost use Rattle.mat_core.specs.Polls.{owner_of, poll_in};
 
 use crate::entering::place_of;
 use crate::parts::Parts;
 use hall_lock::By;
+use job_book::Running;
 use keep_port::Keeper;
-use mat_model::{Answer, Entry, Reply, Request, Ticket};
+use mat_model::{Answer, Card, Entry, Reply, Request, Ticket};
 use mat_path::Path;
 use path_trie::Steps;
 use region_port::Disk;
@@ -63,8 +65,9 @@ impl<D: Disk, K: Keeper> Core<D, K> {
     ghost use Rattle.mat_core.specs.Served.{full_of, is_entered, is_want};
     ghost use Rattle.mat_model.specs.Gate.{gate_of};
     ghost use Rattle.mat_model.specs.Rows.{cover};
+    ghost use Rattle.mat_model.specs.WorkState.{running};
     ghost use Rattle.ticket_book.specs.Asked.{has_number};
-    ghost use Rattle.mat_core.specs.Enters.{place_in};
+    ghost use Rattle.mat_core.specs.Enters.{is_free_leave, place_in};
 
     /// The law of a core: its history is legal, and its devices keep their rules beside the point that this leads to. It does nothing.
     pub fn keeps(&self)
@@ -74,6 +77,7 @@ impl<D: Disk, K: Keeper> Core<D, K> {
     }
 
     /// Serves a request at a moment, and enters it in the history unless a limit would be passed or memory is wanting: then nothing changes.
+    /// The leave of a command that is known and has no open ticket takes no memory.
     pub fn call(&mut self, by: By, now: u64, request: Request) -> Reply
         requires number { by.number ≡ count_by (is_of by.caller) self.old.history }
         requires asks { MayAsk (request_asks request) }
@@ -82,6 +86,7 @@ impl<D: Disk, K: Keeper> Core<D, K> {
         ensures history { self.new.history ≡ (if is_entered result then self.old.history ++ entry_of by (point_in self.new).book.now request result ∷ [] else self.old.history) }
         ensures disk { self.new.disk ≡ self.old.disk }
         ensures keeper { self.new.keeper ≡ self.old.keeper }
+        ensures leave { is_free_leave (request_asks request) (point_in self.old).book ≡ true → is_want result ≡ false }
         ensures full { is_want result ≡ false → full_of result ≡ full_asked self.old.base.limits (point_in self.old) (max (point_in self.old).book.now now) (request_asks request) }
     {
         self.parts.call(by, now, request)
@@ -118,6 +123,20 @@ impl<D: Disk, K: Keeper> Core<D, K> {
         self.parts.history.as_slice()
     }
 
+    /// The paths of kept rows that were lost when it was opened: the disk hadn't their trees.
+    pub fn lost(&self) -> &[Path]
+        ensures { result.now ≡ self.now.base.opening.value.lost }
+    {
+        self.parts.lost.as_slice()
+    }
+
+    /// Who began the job of a number that runs, and its card.
+    pub fn owner(&self, job: u64) -> Option<(u32, &Card)>
+        ensures { option_map (λ owner. (owner.0, owner.1.now)) result ≡ option_map owner_of (running job (point_in self.now).work) }
+    {
+        owner_of(self.parts.jobs.get(job))
+    }
+
     /// The disk as it is.
     pub fn disk(&self) -> &D
         ensures { result.now ≡ self.now.disk }
@@ -130,6 +149,44 @@ impl<D: Disk, K: Keeper> Core<D, K> {
         ensures { result.now ≡ self.now.keeper }
     {
         &self.parts.keeper
+    }
+
+    /// Both devices as they are, and the history. What jobs have on loan stays out.
+    pub fn close(self) -> (D, K, Vec<Entry>)
+        ensures disk { result.0 ≡ self.disk }
+        ensures keeper { result.1 ≡ self.keeper }
+        ensures history { result.2.items ≡ self.history }
+    {
+        let Core { parts } = self;
+        let Parts {
+            base: _base,
+            first: _first,
+            moment: _moment,
+            gate: _gate,
+            rows: _rows,
+            holds: _holds,
+            tickets: _tickets,
+            debris: _debris,
+            jobs: _jobs,
+            kept: _kept,
+            nodes: _nodes,
+            paths: _paths,
+            lost: _lost,
+            history,
+            disk,
+            keeper,
+        } = parts;
+        (disk, keeper, history)
+    }
+}
+
+// Who began a job, and its card.
+fn owner_of(running: Option<&Running>) -> Option<(u32, &Card)>
+    ensures { option_map (λ owner. (owner.0, owner.1.now)) result ≡ option_map owner_of (option_map job_of (option_copied running.entry)) }
+{
+    match running {
+        Some(running) => Some((running.caller, &running.card)),
+        None => None,
     }
 }
 

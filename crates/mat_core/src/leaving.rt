@@ -1,11 +1,12 @@
 // A command that goes.
-ghost use Rattle.std.specs.Prelude.{◌≡◌, ℕ, true, count_by, filter};
+ghost use Rattle.std.specs.Prelude.{◌≡◌, ℕ, true, false, count_by, filter};
 ghost use Rattle.mat_model.specs.declared.answers.Reply.TheVariants as reply;
 ghost use Rattle.mat_model.specs.declared.requests.Asked.TheVariants as asked;
 ghost use Rattle.mat_model.specs.Gate.{depart, is_known};
 ghost use Rattle.mat_model.specs.Requests.{is_hold_of_other, is_open_of, leave};
 ghost use Rattle.mat_core.specs.Books.{book_in};
-ghost use Rattle.mat_core.specs.Served.{IsBesideBook, Serves};
+ghost use Rattle.mat_core.specs.Enters.{may_leave};
+ghost use Rattle.mat_core.specs.Served.{IsBesideBook, Serves, is_want};
 
 use crate::parts::Parts;
 use gate_core::Gate;
@@ -24,9 +25,17 @@ fn depart(gate: &mut Gate, command: u32) -> u64
 }
 
 impl<D, K> Parts<D, K> {
-    /// A command goes, unless it is not known or has open tickets. Takes no memory.
+    /// Whether a command may go: it is known, and has no open ticket. Takes no memory, as the call below.
+    pub fn may_leave(&self, command: u32) -> bool
+        ensures { result ≡ may_leave command (book_in self.now) }
+    {
+        self.gate.is_known(command) && self.tickets.open_of(command) == 0
+    }
+
+    /// A command goes, unless it is not known or has open tickets.
     pub fn serve_leave(&mut self, command: u32) -> Reply
-        ensures { (number : ℕ) → Serves number (asked.Leave command) result self.old self.new }
+        ensures served { (number : ℕ) → Serves number (asked.Leave command) result self.old self.new }
+        ensures only { is_want result ≡ false }
     {
         if !self.gate.is_known(command) {
             return self.if_room(1, Reply::Unknown);

@@ -8,6 +8,7 @@ mod core_;
 mod ensuring;
 mod entering;
 mod granting;
+mod laws;
 mod leaving;
 mod looking;
 mod parts;
@@ -15,3 +16,4 @@ mod room;
 
 pub use base::Base;
 pub use core_::{Core, Place, Poll};
+pub use laws::{begin_keeps_core, end_keeps_core, refusal_keeps_core, untouched_devices_keep_core};

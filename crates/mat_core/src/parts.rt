@@ -7,6 +7,7 @@ use holder_book::HolderBook;
 use job_book::JobBook;
 use kept_book::KeptBook;
 use mat_model::Entry;
+use mat_path::{Items, Path};
 use row_book::RowBook;
 use ticket_book::TicketBook;
 
@@ -26,6 +27,8 @@ pub struct Parts<D, K> {
     pub nodes: u64,
     /// The paths that have a row, a kept row or both.
     pub paths: u64,
+    /// The paths of kept rows that were lost at the opening.
+    pub lost: Items<Path>,
     pub history: Vec<Entry>,
     pub disk: D,
     pub keeper: K,

@@ -1,11 +1,25 @@
 // Whether there is room for more.
-ghost use Rattle.std.specs.Prelude.{◌≡◌, ◌+◌, nat_lt, count_by, length};
+ghost use Rattle.std.specs.Prelude.{◌≡◌, ◌+◌, ◌<◌, ◌≤◌, ◌^◌, nat_lt, count_by, length, true, false};
+ghost use Rattle.std.specs.Vec.{vec_capacity};
 ghost use Rattle.mat_model.specs.Tickets.{is_open, with_hold};
 ghost use Rattle.mat_core.specs.Rooms.{full_grant, if_room, spent_in};
 
 use crate::parts::Parts;
-use mat_model::{Limit, Reply};
+use mat_model::{Entry, Limit, Reply};
 use mat_path::Path;
+
+/// Room in a history for so many entries more, if it wants any; whether there is.
+pub fn has_place(history: &mut Vec<Entry>, wants: bool, entries: usize) -> bool
+    ensures items { history.new.items ≡ history.old.items }
+    ensures capacity { vec_capacity history.old ≤ vec_capacity history.new }
+    ensures place { result ≡ true → wants ≡ true → length history.new.items + entries ≤ vec_capacity history.new }
+    ensures only { wants ≡ false → result ≡ true }
+{
+    if !wants {
+        return true;
+    }
+    history.reserve(entries).is_ok()
+}
 
 impl<D, K> Parts<D, K> {
     /// Whether so many entries more don't fit, beside those that are reserved.
@@ -17,6 +31,14 @@ impl<D, K> Parts<D, K> {
             + self.gate.live().len() as u128
             + self.gate.waiting_count() as u128;
         (self.base.limits.history as u128) < spent + entries as u128
+    }
+
+    /// How many entries are reserved beside those that are there.
+    pub fn owed(&self) -> usize
+        requires { spent_in self.now < 2 ^ 64 }
+        ensures { result + length self.now.history.items ≡ spent_in self.now }
+    {
+        self.jobs.len() + self.gate.live().len() + self.gate.waiting_count() as usize
     }
 
     /// A reply that wants so many entries, or that there is no room for them.

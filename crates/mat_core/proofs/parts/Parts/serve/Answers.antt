@@ -7,8 +7,8 @@ use Rattle.mat_core.specs.Books.{book_in}
 use Rattle.mat_core.specs.Served.{Serves}
 use Rattle.mat_core.proofs.parts.Parts.serve.Goals as goal
 
-pub returns-in-Enter : goal.returns-in-Enter
-returns-in-Enter g c =
+pub returns-in-Enter-clause-served : goal.returns-in-Enter-clause-served
+returns-in-Enter-clause-served g c =
     let size : vec_len c.args.self.now.history ≡ length c.args.self.now.history.items = search rules in
     subst (λ r. Serves (c.args.self.now.first + length c.args.self.now.history.items) (request_asks r) c.serve_enter.result c.args.self.now
     c.serve_enter.new.self) (sym c.in-Enter.is)
@@ -16,27 +16,27 @@ returns-in-Enter g c =
     (asked.Enter c.in-Enter.command c.in-Enter.state c.in-Enter.soft c.in-Enter.refuse) c.serve_enter.result c.args.self.now
     c.serve_enter.new.self) (c.len.ensures ∙ size) c.serve_enter.ensures.served)
 
-pub returns-in-Leave : goal.returns-in-Leave
-returns-in-Leave g c =
+pub returns-in-Leave-clause-served : goal.returns-in-Leave-clause-served
+returns-in-Leave-clause-served g c =
     subst (λ r. Serves (c.args.self.now.first + length c.args.self.now.history.items) (request_asks r) c.serve_leave.result c.args.self.now
-    c.serve_leave.new.self) (sym c.in-Leave.is) (c.serve_leave.ensures (c.args.self.now.first + length c.args.self.now.history.items))
+    c.serve_leave.new.self) (sym c.in-Leave.is) (c.serve_leave.ensures.served (c.args.self.now.first + length c.args.self.now.history.items))
 
-pub returns-in_default : goal.returns-in_default
-returns-in_default g c =
+pub returns-in_default-clause-served : goal.returns-in_default-clause-served
+returns-in_default-clause-served g c =
     c.want.ensures (c.args.self.now.first + length c.args.self.now.history.items) (request_asks c.args.request)
 
-pub returns-in-Matches : goal.returns-in-Matches
-returns-in-Matches g c =
+pub returns-in-Matches-clause-served : goal.returns-in-Matches-clause-served
+returns-in-Matches-clause-served g c =
     subst (λ r. Serves (c.args.self.now.first + length c.args.self.now.history.items) (request_asks r) c.serve_matches.result c.args.self.now
     c.serve_matches.new.self) (sym c.in-Matches.is) (c.serve_matches.ensures (c.args.self.now.first + length c.args.self.now.history.items))
 
-pub returns-in-Has : goal.returns-in-Has
-returns-in-Has g c =
+pub returns-in-Has-clause-served : goal.returns-in-Has-clause-served
+returns-in-Has-clause-served g c =
     subst (λ r. Serves (c.args.self.now.first + length c.args.self.now.history.items) (request_asks r) c.serve_has.result c.args.self.now c.args.self.now)
     (sym c.in-Has.is) (c.serve_has.ensures (c.args.self.now.first + length c.args.self.now.history.items))
 
-pub returns-in-Ensure : goal.returns-in-Ensure
-returns-in-Ensure g c =
+pub returns-in-Ensure-clause-served : goal.returns-in-Ensure-clause-served
+returns-in-Ensure-clause-served g c =
     let size : vec_len c.args.self.now.history ≡ length c.args.self.now.history.items = search rules in
     subst (λ r. Serves (c.args.self.now.first + length c.args.self.now.history.items) (request_asks r) c.serve_ensure.result c.args.self.now
     c.serve_ensure.new.self) (sym c.in-Ensure.is)

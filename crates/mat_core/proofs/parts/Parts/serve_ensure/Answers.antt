@@ -2,7 +2,7 @@ use Rattle.std.proofs.Common.{refl, sym, subst, ◌∙◌}
 use Rattle.mat_model.specs.declared.requests.Asked.TheVariants as asked
 use Rattle.mat_core.specs.Served.{Serves}
 use Rattle.mat_core.proofs.GrantLemmas.{all_earlier, ensure_asked, ensure_full, ensure_ready}
-use Rattle.mat_core.proofs.ServeLemmas.{refusal_serves}
+use Rattle.mat_core.proofs.ServeLemmas.{refusal_serves, unchanged_serves}
 use Rattle.mat_core.proofs.parts.Parts.serve_ensure.Goals as goal
 
 pub returns-in-Err : goal.returns-in-Err
@@ -30,3 +30,13 @@ returns g c =
     ensure_ready c.args.number c.args.command c.args.path.now c.in-Ok-copy.place c.in-Ok.row.now c.args.self.now c.grant.new.self
     c.in-Ok-copy.ensures.ok c.if-not-row.false (c.in-Ok.ensures.found c.args.number) (sym c.full_grant.ensures ∙ c.in_default.is)
     c.in-Ok-grant.ensures.granted
+
+pub returns-in_default-grant_later : goal.returns-in_default-grant_later
+returns-in_default-grant_later g c =
+    unchanged_serves c.args.number (asked.Ensure c.args.command c.args.path.now) c.args.self.now c.grant_later.new.self
+    c.in_default-grant_later.ensures.wants
+
+pub returns-in_default-grant : goal.returns-in_default-grant
+returns-in_default-grant g c =
+    unchanged_serves c.args.number (asked.Ensure c.args.command c.args.path.now) c.args.self.now c.grant.new.self
+    c.in_default-grant.ensures.wants
