@@ -1,8 +1,11 @@
+pub mod BegunLemmas
 pub mod CallLemmas
 pub mod CoreLemmas
 pub mod EnterLemmas
 pub mod EventLemmas
 pub mod GrantLemmas
 pub mod LeaveLemmas
+pub mod OpeningLemmas
 pub mod ReserveLemmas
 pub mod ServeLemmas
+pub mod StartLemmas

@@ -1,9 +1,11 @@
+pub mod Begun
 pub mod Books
 pub mod Cores
 pub mod Served
 pub mod Asks
 pub mod Enters
 pub mod Grants
+pub mod Opened
 pub mod Rooms
 pub mod Polls
 pub mod Events

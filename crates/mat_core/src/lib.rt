@@ -11,6 +11,8 @@ mod granting;
 mod laws;
 mod leaving;
 mod looking;
+mod opening;
+mod opening_debris;
 mod parts;
 mod room;
 
