@@ -90,6 +90,7 @@ gets_more place part order filing from reading next piece m takes = record {
     record {
       given = given;
       offset = m.at.1.has.at;
+      last = more;
       follows = (both.1, whole, within);
       grows = m.at.1.grows;
       source = m.at.1.source;
@@ -111,10 +112,12 @@ gets_more place part order filing from reading next piece m takes = record {
     unended true is = cc
     unended false is = refl
 
+    more : is_last filing.digest.size (length given) ≡ false
+    more =
+        unended (is_last filing.digest.size (length given)) (first_so (not (is_last filing.digest.size (length given))) (length piece.items == most_bytes) both.0)
+
     within : length (given ++ piece.items) ≤ filing.digest.size
     within =
-        let more : is_last filing.digest.size (length given) ≡ false =
-        unended (is_last filing.digest.size (length given)) (first_so (not (is_last filing.digest.size (length given))) (length piece.items == most_bytes) both.0) in
         let far : most_bytes < filing.digest.size - length given = lt_so (filing.digest.size - length given) most_bytes more in
         let long : length (given ++ piece.items) ≡ length given + length piece.items = length-append given piece.items in
         let one : length piece.items ≡ most_bytes = whole in
@@ -133,6 +136,7 @@ gets_last place part order filing from reading piece m takes = record {
     record {
       given = m.at.1.given;
       offset = m.at.1.has.at;
+      last = first_so (is_last filing.digest.size (length m.at.1.given)) (same_digest (digest_of (m.at.1.given ++ piece.items)) filing.digest) (takes m.at.1.given m.at.1.has);
       follows = same_digest-eq (digest_of (m.at.1.given ++ piece.items)) filing.digest
           (second_so (is_last filing.digest.size (length m.at.1.given)) (same_digest (digest_of (m.at.1.given ++ piece.items)) filing.digest) (takes m.at.1.given m.at.1.has));
       grows = m.at.1.grows;

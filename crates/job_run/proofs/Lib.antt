@@ -10,6 +10,7 @@ pub mod Given
 pub mod Grown
 pub mod Moving
 pub mod Nexts
+pub mod Proceeding
 pub mod Puts
 pub mod Sealed
 pub mod Takings

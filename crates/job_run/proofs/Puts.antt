@@ -124,7 +124,7 @@ front_and_piece bytes at within =
     long = length-append front piece ∙ ap (λ (n : ℕ). n + length piece) (length-take-le at bytes within)
 
 -- how long a piece of held bytes is
-piece_length : (bytes piece : List ℕ) (at : ℕ) → piece ≡ take most_bytes (drop at bytes) → length piece ≡ min most_bytes (length bytes - at)
+pub piece_length : (bytes piece : List ℕ) (at : ℕ) → piece ≡ take most_bytes (drop at bytes) → length piece ≡ min most_bytes (length bytes - at)
 piece_length bytes piece at is = ap length is ∙ length-take most_bytes (drop at bytes) ∙ ap (min most_bytes) (length-drop at bytes)
 
 piece_within : (bytes piece : List ℕ) (at : ℕ) → at ≤ length bytes → piece ≡ take most_bytes (drop at bytes) → at + length piece ≤ length bytes
@@ -132,7 +132,7 @@ piece_within bytes piece at within is =
     let long : length piece ≡ min most_bytes (length bytes - at) = piece_length bytes piece at is in omega arith
 
 -- the size of a digest
-size_is : (bytes : List ℕ) (digest : Digest) → digest_of bytes ≡ digest → digest.size ≡ length bytes
+pub size_is : (bytes : List ℕ) (digest : Digest) → digest_of bytes ≡ digest → digest.size ≡ length bytes
 size_is bytes digest is = sym (ap (λ (d : Digest). d.size) is) ∙ digest_of-size bytes
 
 -- behind a piece of held bytes that isn't the last fewer calls are left

@@ -8,7 +8,10 @@ use Rattle.mat_tree.specs.declared.flat.Flat.{Flat}
 use Rattle.region_port.specs.States.{loan_region, state_region}
 use Rattle.region_port.specs.declared.port.Region.{Ghosts}
 use Rattle.region_port.specs.declared.states.ReadLoan.{ReadLoan}
+use Rattle.job_run.specs.CourseStages.{state_course, state_reading}
+use Rattle.job_run.specs.Courses.{Course}
 use Rattle.job_run.specs.Done.{is_make, task_path}
+use Rattle.job_run.specs.declared.reading.Reading.{Reading}
 use Rattle.job_run.specs.States.{failure_of, has_ended, is_disk, region_of, state_asks, state_cost}
 use Rattle.job_run.specs.Steps.{Fetching, Spot, Stands, doing_spot, spot_next, state_fetching, state_spot}
 use Rattle.job_run.specs.declared.machine.Goal.{Goal}
@@ -68,6 +71,13 @@ machine_asks machine = state_asks machine.state
 
 abbrev pub machine_fetching : {R : Type 0} {g : Ghosts R} → Machine R g → Option Fetching
 machine_fetching machine = state_fetching machine.state
+
+-- what it is to do still, and how far the file that it is at is read
+abbrev pub machine_course : {R : Type 0} {g : Ghosts R} → Machine R g → Course
+machine_course machine = state_course machine.state
+
+abbrev pub machine_reading : {R : Type 0} {g : Ghosts R} → Machine R g → Option Reading
+machine_reading machine = state_reading machine.state
 
 -- a count of faults of a part that is lent is at least this
 abbrev pub LoanCounts : {R : Type 0} → Ghosts R → Option (ReadLoan R) → ℕ → Type 0

@@ -1,6 +1,9 @@
+pub mod Along
 pub mod Arming
 pub mod Asking
 pub mod Begun
+pub mod Courses
+pub mod CourseStages
 pub mod Done
 pub mod Failures
 pub mod Growing

@@ -12,3 +12,7 @@ is_last size at = nat_le (size - at) most_bytes
 -- how many bytes a reading step asks for: the last piece is asked for with one byte more than is left
 abbrev pub asked_for : ℕ → ℕ → ℕ
 asked_for size at = if is_last size at then (size - at) + 1 else most_bytes
+
+-- how long the piece from an offset on is: all but the last are whole
+abbrev pub piece_size : ℕ → ℕ → ℕ
+piece_size size at = if is_last size at then size - at else most_bytes

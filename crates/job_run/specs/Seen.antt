@@ -4,6 +4,7 @@ use Rattle.mat_model.specs.declared.entries.Card.{Card}
 use Rattle.mat_tree.specs.declared.flat.Flat.{Flat}
 use Rattle.region_port.specs.declared.port.Region.{Ghosts}
 use Rattle.region_port.specs.declared.states.ReadLoan.{ReadLoan}
+use Rattle.job_run.specs.CourseStages.{state_course, state_reading}
 use Rattle.job_run.specs.Jobs.{goal_tree}
 use Rattle.job_run.specs.States.{failure_of, has_ended, region_of, state_asks, state_cost}
 use Rattle.job_run.specs.Steps.{state_fetching, state_spot}
@@ -24,6 +25,8 @@ seen_at card goal loan stage = record {
   calls = state_cost stage;
   asks = state_asks stage;
   fetching = state_fetching stage;
+  course = state_course stage;
+  reading = state_reading stage;
 }
 
 abbrev pub seen : {R : Type 0} {g : Ghosts R} → Machine R g → Seen R

@@ -1,6 +1,7 @@
 -- What each stage of a make keeps.
-use Rattle.std.specs.Prelude.{◌≡◌, ◌≤◌, ◌==◌, ◌+◌, ◌-◌, ◌*◌, ℕ, Bool, true, false, if◌then◌else◌, List, [], ◌∷◌, ◌++◌, length, take, Option, Some, None}
+use Rattle.std.specs.Prelude.{◌≡◌, ◌≤◌, ◌==◌, ◌+◌, ◌-◌, ◌*◌, ℕ, Bool, true, false, not, if◌then◌else◌, List, [], ◌∷◌, ◌++◌, length, take, Option, Some, None}
 use Rattle.std.specs.List.{sum_by}
+use Rattle.std.specs.Option.{is_some}
 use Rattle.mat_digest.specs.Digests.{digest_of}
 use Rattle.mat_digest.specs.declared.digest.Digest.{Digest}
 use Rattle.mat_tree.specs.Parts.{Part}
@@ -13,7 +14,7 @@ use Rattle.write_plan.specs.declared.act.Supply.TheVariants as supply
 use Rattle.write_plan.specs.declared.method.Method.{Method}
 use Rattle.job_run.specs.Growing.{Grows, HasNodes, dir_node, file_node, link_node}
 use Rattle.job_run.specs.Orders.{IsLeft, IsMakeable, acts_cost, again_cost, file_cost, held_bytes, own_supply}
-use Rattle.job_run.specs.Pieces.{most_bytes}
+use Rattle.job_run.specs.Pieces.{is_last, most_bytes}
 use Rattle.job_run.specs.Readings.{HasGiven}
 use Rattle.job_run.specs.declared.reading.Reading.{Reading}
 use Rattle.job_run.specs.declared.states.Doing.{Doing}
@@ -65,6 +66,7 @@ Follows wanted given piece (Some reading) = HasGiven reading (given ++ piece) ×
 pub record IsGot (way : Method) (lent : Bool) (filing : Filing) (nodes : List Flat) (part : Option Part) (from : Source) (at : ℕ) (piece : List ℕ) (more : Option Reading) : Type 0 where
   pub given : List ℕ
   pub offset : at ≡ length given
+  pub last : is_last filing.digest.size (length given) ≡ not (is_some more)
   pub follows : Follows filing.digest given piece more
   pub grows : Grows filing.rel filing.exec nodes given part
   pub source : may_read way lent from ≡ true

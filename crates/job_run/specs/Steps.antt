@@ -6,6 +6,7 @@ use Rattle.mat_tree.specs.Parts.{Part as TreePart}
 use Rattle.mat_tree.specs.declared.flat.Flat.{Flat}
 use Rattle.region_port.specs.declared.port.Region.{Ghosts}
 use Rattle.fetch_port.specs.Fetches.{Blobs}
+use Rattle.fetch_port.specs.declared.port.Fetcher.{Ghosts as FetcherGhosts}
 use Rattle.mat_digest.specs.declared.digest.Digest.{Digest}
 use Rattle.job_run.specs.Readings.{completes, goes_on}
 use Rattle.mat_io.specs.Watches.{Watch}
@@ -154,6 +155,9 @@ pub record Told : Type 0 where
 abbrev pub told_now : Option Blobs → ℕ → ℕ → Option Watch → Told
 told_now holds faults fetches watch = record { holds = holds; faults = faults; fetches = fetches; watch = watch }
 
+abbrev pub told_by : {F : Type 0} → FetcherGhosts F → F → Told
+told_by g fetcher = told_now (g.holds fetcher) (g.fault_count fetcher) (g.fetches fetcher) (g.watch fetcher)
+
 -- one call on the store for the next piece of the file that is read there
 abbrev pub Asks : Option Fetching → Told → Told → Option Outcome → Type 0
 Asks None old new failure = ⊥
@@ -195,26 +199,6 @@ LoanStays g (Some old) None = ⊥
 LoanStays g (Some old) (Some new) = KeepsLoan g old new
 
 -- ---- what is read in a lent part
-
--- whether a piece that was read is put next
-abbrev pub is_filled : Filling → Bool
-is_filled (filling.Held at) = false
-is_filled (filling.Due from reading) = false
-is_filled (filling.Got from at piece more) = true
-
-abbrev pub is_doing_filled : Doing → Bool
-is_doing_filled (doing.Dir rel) = false
-is_doing_filled (doing.Link rel target) = false
-is_doing_filled (doing.File filing how) = is_filled how
-is_doing_filled doing.Sync = false
-
-abbrev pub is_got : {R : Type 0} {g : Ghosts R} → State R g → Bool
-is_got (state.Wiping region) = false
-is_got (state.Emptying region) = false
-is_got (state.Clearing region order) = false
-is_got (state.Making making) = is_doing_filled making.doing
-is_got (state.Ended left ended) = false
-is_got state.Moving = false
 
 -- whether a piece behind the bytes given is what is due
 abbrev pub is_due : Digest → List ℕ → List ℕ → Bool

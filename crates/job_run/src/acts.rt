@@ -2,6 +2,7 @@
 ghost use Rattle.std.specs.Prelude.{◌≡◌, ◌≤◌, ◌+◌, ℕ, List, length, take, drop, Option};
 ghost use Rattle.mat_tree.specs.declared.flat.Flat.{Flat};
 ghost use Rattle.job_run.specs.Begun.{Begins, BeginsFrom};
+ghost use Rattle.job_run.specs.CourseStages.{acts_duties, doing_duties};
 ghost use Rattle.job_run.specs.Orders.{IsLeft, acts_cost, held_bytes, origin_bytes, own_supply, supply_cost};
 ghost use Rattle.write_plan.specs.Plans.{origin_supply};
 ghost use Rattle.job_run.specs.Pieces.{most_bytes};
@@ -100,6 +101,7 @@ pub(crate) fn next(order: &mut Order) -> Doing
     ensures cost { doing_cost result + acts_cost order.new.left.items ≡ acts_cost order.old.left.items }
     ensures asks { (way : Method) → doing_asks way result + acts_asks way order.new.left.items ≡ acts_asks way order.old.left.items }
     ensures from { (blobs : Option Blobs) → FetchingFrom blobs (doing_fetching result) }
+    ensures duties { doing_duties result (acts_duties order.new.left.items) ≡ acts_duties order.old.left.items }
 {
     match order.left.pop_front() {
         None => unreachable!(),

@@ -3,6 +3,7 @@ ghost use Rattle.std.specs.Prelude.{◌≡◌, ℕ, List, Option, Some, true};
 ghost use Rattle.std.specs.Option.{is_some};
 ghost use Rattle.mat_tree.specs.declared.flat.Flat.{Flat};
 ghost use Rattle.job_run.specs.Arming.{ArmsAt, ArmsLoan, ArmsNext, IsArmed};
+ghost use Rattle.job_run.specs.CourseStages.{state_course, state_reading};
 ghost use Rattle.job_run.specs.Jobs.{Counts};
 ghost use Rattle.job_run.specs.States.{failure_of, has_ended, region_of, state_asks, state_cost};
 ghost use Rattle.job_run.specs.Steps.{Stands, doing_spot, loan_call, state_fetching, state_spot};
@@ -55,6 +56,8 @@ pub(crate) fn arm_stage(state: &mut State<MemRegion>, loan: &mut Option<ReadLoan
     ensures cost { state_cost state.new ≡ state_cost state.old }
     ensures asks { state_asks state.new ≡ state_asks state.old }
     ensures fetching { state_fetching state.new ≡ state_fetching state.old }
+    ensures course { state_course state.new ≡ state_course state.old }
+    ensures reading { state_reading state.new ≡ state_reading state.old }
 {
     match state {
         State::Wiping(region) => arm_region(region),

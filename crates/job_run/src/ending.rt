@@ -2,6 +2,8 @@
 ghost use Rattle.std.specs.Prelude.{◌≡◌, ◌+◌, [], List, Option, Some, None, ◌≤◌};
 ghost use Rattle.std.specs.Option.{ForSome};
 ghost use Rattle.mat_tree.specs.Parts.{bare};
+ghost use Rattle.job_run.specs.CourseStages.{Leads, MakesPart, clearing_course, emptying_course, making_course};
+ghost use Rattle.job_run.specs.Courses.{wipe_course};
 ghost use Rattle.job_run.specs.Failures.{IsDiskCall};
 ghost use Rattle.job_run.specs.Orders.{IsLeft, IsMakeable, acts_cost};
 ghost use Rattle.job_run.specs.Stages.{IsMaking, making_cost};
@@ -9,7 +11,7 @@ ghost use Rattle.job_run.specs.States.{Continues, Empties, failure_of, region_of
 ghost use Rattle.fetch_port.specs.Fetches.{Blobs};
 ghost use Rattle.job_run.specs.Stages.{acts_asks};
 ghost use Rattle.job_run.specs.States.{state_asks};
-ghost use Rattle.job_run.specs.Steps.{FetchingFrom, state_fetching};
+ghost use Rattle.job_run.specs.Steps.{FetchingFrom, part_call, state_fetching};
 
 use crate::calls;
 use crate::failure::fault;
@@ -26,6 +28,8 @@ pub(crate) fn clear<R: Region>(mut region: R, order: Order) -> State<R>
     ensures goes { Continues (R.place region) order.tree order.lent (acts_cost order.left.items + 1) result }
     ensures asks { state_asks result ≤ acts_asks order.method order.left.items }
     ensures from { (blobs : Option Blobs) → FetchingFrom blobs (state_fetching result) }
+    ensures course { Leads part_call (clearing_course order) result }
+    ensures makes { MakesPart region (clearing_course order) result }
 {
     let failure = calls::wipe(&mut region);
     after_node(region, order, failure)
@@ -38,6 +42,8 @@ pub(crate) fn settle<R: Region>(region: R, order: Order) -> State<R>
     ensures goes { Continues (R.place region) order.tree order.lent (making_cost order Doing.Sync) result }
     ensures asks { state_asks result ≡ 0 }
     ensures from { (blobs : Option Blobs) → FetchingFrom blobs (state_fetching result) }
+    ensures course { Leads part_call (making_course order Doing.Sync) result }
+    ensures makes { MakesPart region (making_course order Doing.Sync) result }
 {
     let before = region.faults();
     match Rough::new(region).settle(order.tree) {
@@ -58,6 +64,8 @@ pub(crate) fn wipe<R: Region>(mut region: R) -> State<R>
     ensures goes { Empties (R.place region) 2 result }
     ensures asks { state_asks result ≡ 0 }
     ensures from { (blobs : Option Blobs) → FetchingFrom blobs (state_fetching result) }
+    ensures course { Leads part_call wipe_course result }
+    ensures makes { MakesPart region wipe_course result }
 {
     match calls::wipe(&mut region) {
         None => State::Emptying(region),
@@ -72,6 +80,8 @@ pub(crate) fn empty<R: Region>(region: R) -> State<R>
     ensures goes { Empties (R.place region) 1 result }
     ensures asks { state_asks result ≡ 0 }
     ensures from { (blobs : Option Blobs) → FetchingFrom blobs (state_fetching result) }
+    ensures course { Leads part_call emptying_course result }
+    ensures makes { MakesPart region emptying_course result }
 {
     let before = region.faults();
     match Rough::new(region).empty() {

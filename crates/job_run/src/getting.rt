@@ -1,6 +1,7 @@
 // The steps of a make that read the next piece of a file.
 ghost use Rattle.std.specs.Prelude.{◌≡◌, ◌≤◌, ◌+◌, ℕ, List, Option, Some, None, length};
 ghost use Rattle.mat_digest.specs.Digests.{digest_of};
+ghost use Rattle.job_run.specs.CourseStages.{Leads, making_course};
 ghost use Rattle.job_run.specs.Pieces.{asked_for, most_bytes};
 ghost use Rattle.job_run.specs.Readings.{HasGiven, judged};
 ghost use Rattle.job_run.specs.Stages.{IsMaking, making_cost};
@@ -9,7 +10,7 @@ ghost use Rattle.job_run.specs.StoreCalls.{IsStoreCall};
 ghost use Rattle.fetch_port.specs.Fetches.{Blobs, GivesPiece, held_at};
 ghost use Rattle.job_run.specs.Stages.{acts_asks};
 ghost use Rattle.job_run.specs.States.{state_asks};
-ghost use Rattle.job_run.specs.Steps.{FetchingFrom, state_fetching};
+ghost use Rattle.job_run.specs.Steps.{FetchingFrom, state_fetching, store_call};
 ghost use Rattle.job_run.specs.StoreCalls.{IsFrom};
 
 use crate::acts;
@@ -51,6 +52,7 @@ fn take_fetched<R: Region>(
     ensures goes { Continues (R.place region) order.tree order.lent (making_cost order (Doing.File filing (Filling.Due Source.Store reading))) result }
     ensures asks { state_asks result ≤ acts_asks order.method order.left.items }
     ensures from { (blobs : Option Blobs) → GivesPiece (held_at blobs filing.digest) reading.at (asked_for filing.digest.size reading.at) piece.items → IsFrom blobs filing.digest reading → FetchingFrom blobs (state_fetching result) }
+    ensures course { Leads store_call (making_course order (Doing.File filing (Filling.Due Source.Store reading))) result }
 {
     let at = reading.at;
     let from = Source::Store;
@@ -97,6 +99,7 @@ pub(crate) fn fetch<R: Region, F: Fetcher>(
     ensures goes { Continues (R.place region) order.tree order.lent (making_cost order (Doing.File filing (Filling.Due Source.Store reading))) result }
     ensures asks { state_asks result ≤ acts_asks order.method order.left.items }
     ensures from { IsFrom (F.holds fetcher.old) filing.digest reading → FetchingFrom (F.holds fetcher.old) (state_fetching result) }
+    ensures course { Leads store_call (making_course order (Doing.File filing (Filling.Due Source.Store reading))) result }
 {
     let before = fetcher.faults();
     let most = asked_for(filing.digest.size, reading.at);

@@ -7,12 +7,14 @@ ghost use Rattle.region_port.specs.States.{rough_region, state_region};
 ghost use Rattle.write_plan.specs.Plans.{plan_of};
 ghost use Rattle.job_run.specs.Done.{counts_fault, ends_task, is_make, leaves_part, task_path};
 ghost use Rattle.job_run.specs.Arming.{ArmsNext};
+ghost use Rattle.job_run.specs.Along.{CallsItsLoan, CallsItsPart, CallsItsStore, GoesAlong, IsAlong, MakesIts, ReadsOn};
 ghost use Rattle.job_run.specs.Asking.{asks_of};
+ghost use Rattle.job_run.specs.Courses.{make_course, wipe_course};
 ghost use Rattle.job_run.specs.Moves.{Causes, LoanMoves, Moves, RegionMoves, around, left_by};
 ghost use Rattle.job_run.specs.Orders.{is_right};
 ghost use Rattle.job_run.specs.States.{HasEnded, failing};
-ghost use Rattle.job_run.specs.Steps.{Asks, CallsLoan, CallsRegion, IsAt, LoanStays, loan_call, part_call, store_call, told_now};
-ghost use Rattle.job_run.specs.Views.{asks_left, calls_left, is_over, job_card, job_failure, job_fetching, job_goal, job_loan, job_next, job_region, job_spot};
+ghost use Rattle.job_run.specs.Steps.{Asks, CallsLoan, CallsRegion, IsAt, LoanStays, loan_call, part_call, store_call, told_by};
+ghost use Rattle.job_run.specs.Views.{asks_left, calls_left, is_over, job_card, job_course, job_failure, job_fetching, job_goal, job_loan, job_next, job_reading, job_region, job_spot};
 
 use crate::machine::Machine;
 use fetch_port::Fetcher;
@@ -86,6 +88,7 @@ impl<R: Region> Job<R> {
         ensures going { is_over result ≡ false }
         ensures fetching { job_fetching result ≡ None }
         ensures asks { asks_left result ≡ 0 }
+        ensures course { job_course result ≡ wipe_course }
     {
         let machine = Machine::wipe(card, part);
         Job { machine }
@@ -113,6 +116,7 @@ impl<R: Region> Job<R> {
         ensures going { is_over result ≡ false }
         ensures fetching { job_fetching result ≡ None }
         ensures asks { asks_left result ≡ asks_of method tree }
+        ensures course { job_course result ≡ make_course tree method (is_some loan) }
     {
         let machine = Machine::make(card, part, tree, method, acts, loan);
         Job { machine }
@@ -139,17 +143,18 @@ impl<R: Region> Job<R> {
         self.machine.has_ended()
     }
 
-    /// What every job keeps: its part is at the path of its task, it has a tree to make just where its task is a make, and it has
-    /// failed only where it has ended. Takes no memory.
+    /// What every job keeps: its part is at the path of its task, it has a tree to make just where its task is a make, it has
+    /// failed only where it has ended, and it reads no other file than the one that it is at. Takes no memory.
     pub fn keeps(&self)
         ensures place { IsAt ⟦<R as Region>⟧ (task_path (job_card self.now).task) (job_region self.now) }
         ensures kind { is_some (job_goal self.now) ≡ is_make (job_card self.now).task }
         ensures going { is_over self.now ≡ false → job_failure self.now ≡ None }
+        ensures along { IsAlong self.now }
     {
         let _ = &self.machine;
     }
 
-    /// Makes the one device call that `next` names.
+    /// Makes the one device call that `next` names: the first thing that is left asks for it, and it leads on as the plan says.
     pub fn step<F: Fetcher>(&mut self, fetcher: &mut F) -> Stepped
         requires { is_over self.old ≡ false }
         ensures card { job_card self.new ≡ job_card self.old }
@@ -157,12 +162,15 @@ impl<R: Region> Job<R> {
         ensures result { result ≡ (if is_over self.new then Stepped.Ended else Stepped.Going) }
         ensures less { calls_left self.new < calls_left self.old }
         ensures loan { LoanStays ⟦<R as Region>⟧ (job_loan self.old) (job_loan self.new) }
-        ensures on_part { job_spot self.old ≡ part_call → CallsRegion ⟦<R as Region>⟧ (job_region self.old) (job_region self.new) (job_failure self.new) × (job_loan self.new ≡ job_loan self.old) × (fetcher.new ≡ fetcher.old) }
-        ensures on_loan { job_spot self.old ≡ loan_call → (job_region self.new ≡ job_region self.old) × CallsLoan ⟦<R as Region>⟧ (job_loan self.old) (job_loan self.new) (job_failure self.new) × (fetcher.new ≡ fetcher.old) }
-        ensures on_store { job_spot self.old ≡ store_call → (job_region self.new ≡ job_region self.old) × (job_loan self.new ≡ job_loan self.old) × Asks (job_fetching self.old) (told_now (F.holds fetcher.old) (F.fault_count fetcher.old) (F.fetches fetcher.old) (F.watch fetcher.old)) (told_now (F.holds fetcher.new) (F.fault_count fetcher.new) (F.fetches fetcher.new) (F.watch fetcher.new)) (job_failure self.new) }
+        ensures on_part { CallsItsPart ⟦<R as Region>⟧ self.old self.new fetcher.old fetcher.new }
+        ensures on_loan { CallsItsLoan ⟦<R as Region>⟧ self.old self.new fetcher.old fetcher.new }
+        ensures on_store { CallsItsStore self.old (told_by ⟦<F as Fetcher>⟧ fetcher.old) self.new (told_by ⟦<F as Fetcher>⟧ fetcher.new) }
         ensures holds { F.holds fetcher.new ≡ F.holds fetcher.old }
-        ensures moves { Moves ⟦<R as Region>⟧ self.old (told_now (F.holds fetcher.old) (F.fault_count fetcher.old) (F.fetches fetcher.old) (F.watch fetcher.old)) self.new (told_now (F.holds fetcher.new) (F.fault_count fetcher.new) (F.fetches fetcher.new) (F.watch fetcher.new)) }
-        ensures causes { Causes ⟦<R as Region>⟧ (around self.old (told_now (F.holds fetcher.old) (F.fault_count fetcher.old) (F.fetches fetcher.old) (F.watch fetcher.old))) (around self.new (told_now (F.holds fetcher.new) (F.fault_count fetcher.new) (F.fetches fetcher.new) (F.watch fetcher.new))) (job_failure self.new) }
+        ensures moves { Moves ⟦<R as Region>⟧ self.old (told_by ⟦<F as Fetcher>⟧ fetcher.old) self.new (told_by ⟦<F as Fetcher>⟧ fetcher.new) }
+        ensures causes { Causes ⟦<R as Region>⟧ (around self.old (told_by ⟦<F as Fetcher>⟧ fetcher.old)) (around self.new (told_by ⟦<F as Fetcher>⟧ fetcher.new)) (job_failure self.new) }
+        ensures course { GoesAlong self.old self.new }
+        ensures makes { MakesIts ⟦<R as Region>⟧ self.old self.new }
+        ensures lent { ReadsOn ⟦<R as Region>⟧ self.old self.new }
     {
         self.machine.step(fetcher)
     }
@@ -203,6 +211,8 @@ impl Job<MemRegion> {
         ensures calls { calls_left self.new ≡ calls_left self.old }
         ensures asks { asks_left self.new ≡ asks_left self.old }
         ensures fetching { job_fetching self.new ≡ job_fetching self.old }
+        ensures course { job_course self.new ≡ job_course self.old }
+        ensures reading { job_reading self.new ≡ job_reading self.old }
     {
         self.machine.arm();
     }
@@ -217,7 +227,7 @@ pub fn work_off<R: Region, F: Fetcher>(mut job: Job<R>, fetcher: &mut F) -> Done
     ensures holds { F.holds fetcher.new ≡ F.holds fetcher.old }
     ensures faults { F.fault_count fetcher.old ≤ F.fault_count fetcher.new }
     ensures asks { F.fetches fetcher.new ≤ F.fetches fetcher.old + asks_left job }
-    ensures causes { job_failure job ≡ None → Causes ⟦<R as Region>⟧ (around job (told_now (F.holds fetcher.old) (F.fault_count fetcher.old) (F.fetches fetcher.old) (F.watch fetcher.old))) (left_by (Some (state_region result.part)) result.loan (told_now (F.holds fetcher.new) (F.fault_count fetcher.new) (F.fetches fetcher.new) (F.watch fetcher.new))) (failing result.outcome) }
+    ensures causes { job_failure job ≡ None → Causes ⟦<R as Region>⟧ (around job (told_by ⟦<F as Fetcher>⟧ fetcher.old)) (left_by (Some (state_region result.part)) result.loan (told_by ⟦<F as Fetcher>⟧ fetcher.new)) (failing result.outcome) }
 {
     'steps: while !job.has_ended() {
         job.step(fetcher);

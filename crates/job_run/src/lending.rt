@@ -1,16 +1,14 @@
 // The step of a make that reads the next piece of a file in the part that is lent.
-ghost use Rattle.std.specs.Prelude.{◌≡◌, ◌≤◌, ◌||◌, true, ℕ, List, Option, Some, None, length, ◌+◌};
+ghost use Rattle.std.specs.Prelude.{◌≡◌, ◌≤◌, ◌⊎◌, ℕ, List, Option, Some, None, length, ◌+◌};
 ghost use Rattle.region_port.specs.States.{loan_region, loan_tree};
+ghost use Rattle.job_run.specs.CourseStages.{Leads, LendsOn, making_course, state_course};
+ghost use Rattle.job_run.specs.Courses.{IsOther};
 ghost use Rattle.job_run.specs.Failures.{IsDiskCall};
 ghost use Rattle.job_run.specs.Pieces.{asked_for};
 ghost use Rattle.job_run.specs.declared.reading.Reading.{Reading};
-ghost use Rattle.job_run.specs.Readings.{HasGiven};
 ghost use Rattle.job_run.specs.Stages.{IsMaking, making_cost};
 ghost use Rattle.job_run.specs.States.{Continues, failure_of, region_of};
-ghost use Rattle.job_run.specs.Steps.{is_due, is_got};
-ghost use Rattle.mat_tree.specs.Parts.{Part};
-ghost use Rattle.region_port.specs.Reads.{file_bytes, piece};
-ghost use Rattle.std.specs.Option.{is_some};
+ghost use Rattle.job_run.specs.Steps.{loan_call};
 ghost use Rattle.fetch_port.specs.Fetches.{Blobs};
 ghost use Rattle.job_run.specs.Orders.{own_supply};
 ghost use Rattle.job_run.specs.Stages.{acts_asks, own_asks};
@@ -36,6 +34,7 @@ fn again<R: Region>(region: R, order: Order, filing: Filing) -> State<R>
     ensures goes { (rel : List (List ℕ)) (reading : Reading) → IsMaking (R.place region) (R.part region) order (Doing.File filing (Filling.Due (Source.Loan rel) reading)) → Continues (R.place region) order.tree order.lent (making_cost order (Doing.File filing (Filling.Due (Source.Loan rel) reading))) result }
     ensures asks { state_asks result ≤ own_asks (own_supply order.method) + acts_asks order.method order.left.items }
     ensures from { (blobs : Option Blobs) → FetchingFrom blobs (state_fetching result) }
+    ensures course { (rel : List (List ℕ)) (reading : Reading) → Leads loan_call (making_course order (Doing.File filing (Filling.Due (Source.Loan rel) reading))) result }
 {
     let how = acts::begin(acts::own_supply(&order.method));
     State::Making(filled(region, order, filing, how))
@@ -54,10 +53,11 @@ fn take_lent<R: Region>(
     requires short { length piece.items ≤ asked_for filing.digest.size reading.at }
     ensures region { region_of result ≡ Some region }
     ensures failure { failure_of result ≡ None }
-    ensures due { (given : List ℕ) → HasGiven reading given → is_due filing.digest given piece.items ≡ true → is_got result ≡ true }
     ensures goes { Continues (R.place region) order.tree order.lent (making_cost order (Doing.File filing (Filling.Due (Source.Loan rel) reading))) result }
     ensures asks { state_asks result ≤ own_asks (own_supply order.method) + acts_asks order.method order.left.items }
     ensures from { (blobs : Option Blobs) → FetchingFrom blobs (state_fetching result) }
+    ensures course { Leads loan_call (making_course order (Doing.File filing (Filling.Due (Source.Loan rel) reading))) result }
+    ensures kept { ((state_course result).from ≡ (making_course order (Doing.File filing (Filling.Due (Source.Loan rel) reading))).from) ⊎ IsOther filing.digest reading (Got.Bytes piece.items) }
 {
     let at = reading.at;
     match reading.take(&filing.digest, piece.as_slice()) {
@@ -103,10 +103,11 @@ pub(crate) fn read<R: Region>(
     ensures part { R.part (loan_region loan.new) ≡ R.part (loan_region loan.old) }
     ensures rough { R.rough (loan_region loan.new) ≡ R.rough (loan_region loan.old) }
     ensures call { IsDiskCall (R.fault_count (loan_region loan.old)) (R.fault_count (loan_region loan.new)) (R.watch (loan_region loan.old)) (R.watch (loan_region loan.new)) (failure_of result) }
-    ensures due { (given : List ℕ) (told : Part) (bytes : List ℕ) → HasGiven reading given → R.part (loan_region loan.old) ≡ Some told → file_bytes (told rel) ≡ Some bytes → is_due filing.digest given (piece reading.at (asked_for filing.digest.size reading.at) bytes) ≡ true → (is_some (failure_of result) || is_got result) ≡ true }
     ensures goes { Continues (R.place region) order.tree order.lent (making_cost order (Doing.File filing (Filling.Due (Source.Loan rel) reading))) result }
     ensures asks { state_asks result ≤ own_asks (own_supply order.method) + acts_asks order.method order.left.items }
     ensures from { (blobs : Option Blobs) → FetchingFrom blobs (state_fetching result) }
+    ensures course { Leads loan_call (making_course order (Doing.File filing (Filling.Due (Source.Loan rel) reading))) result }
+    ensures lent { LendsOn (Some loan.old) (making_course order (Doing.File filing (Filling.Due (Source.Loan rel) reading))) (Some reading) result }
 {
     let before = loan.faults();
     let most = asked_for(filing.digest.size, reading.at);

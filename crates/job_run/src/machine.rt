@@ -5,7 +5,9 @@ ghost use Rattle.std.specs.List.{list_all};
 ghost use Rattle.mat_tree.specs.Trees.{is_placed};
 ghost use Rattle.region_port.specs.States.{rough_region, state_region};
 ghost use Rattle.write_plan.specs.Plans.{plan_of};
-ghost use Rattle.job_run.specs.Jobs.{IsJob, machine_asks, machine_card, machine_cost, machine_failure, machine_fetching, machine_goal, machine_loan, machine_next, machine_over, machine_region, machine_spot, state_next};
+ghost use Rattle.job_run.specs.Courses.{make_course, wipe_course};
+ghost use Rattle.job_run.specs.Along.{CallsItsLoan, CallsItsPart, CallsItsStore, GoesAlong, MakesIts, ReadsOn};
+ghost use Rattle.job_run.specs.Jobs.{IsJob, machine_asks, machine_card, machine_cost, machine_course, machine_failure, machine_fetching, machine_goal, machine_loan, machine_next, machine_over, machine_reading, machine_region, machine_spot, state_next};
 ghost use Rattle.job_run.specs.Done.{is_make, task_path};
 ghost use Rattle.job_run.specs.States.{HasEnded, failing, region_of};
 ghost use Rattle.job_run.specs.Arming.{ArmsNext};
@@ -13,7 +15,7 @@ ghost use Rattle.job_run.specs.Asking.{asks_of};
 ghost use Rattle.job_run.specs.Moves.{Causes, Moves, around};
 ghost use Rattle.job_run.specs.Orders.{IsLeft, IsMakeable, is_right};
 ghost use Rattle.job_run.specs.Seen.{seen};
-ghost use Rattle.job_run.specs.Steps.{Asks, CallsLoan, CallsRegion, LoanStays, doing_spot, source_spot, spot_next, loan_call, part_call, store_call, told_now};
+ghost use Rattle.job_run.specs.Steps.{Asks, CallsLoan, CallsRegion, LoanStays, doing_spot, source_spot, spot_next, loan_call, part_call, store_call, told_by};
 
 use crate::arming::arm_stage;
 use crate::job::{Done, Next, Stepped};
@@ -142,6 +144,7 @@ impl<R: Region> Machine<R> {
         ensures going { machine_over result ≡ false }
         ensures fetching { machine_fetching result ≡ None }
         ensures asks { machine_asks result ≡ 0 }
+        ensures course { machine_course result ≡ wipe_course }
     {
         let goal = Goal::Nothing;
         Machine {
@@ -175,6 +178,7 @@ impl<R: Region> Machine<R> {
         ensures going { machine_over result ≡ false }
         ensures fetching { machine_fetching result ≡ None }
         ensures asks { machine_asks result ≡ asks_of method tree }
+        ensures course { machine_course result ≡ make_course tree method (is_some loan) }
     {
         let lent = loan.is_some();
         let goal = Goal::Tree(tree);
@@ -222,12 +226,15 @@ impl<R: Region> Machine<R> {
         ensures result { result ≡ (if machine_over self.new then Stepped.Ended else Stepped.Going) }
         ensures less { machine_cost self.new < machine_cost self.old }
         ensures loan { LoanStays ⟦<R as Region>⟧ (machine_loan self.old) (machine_loan self.new) }
-        ensures on_part { machine_spot self.old ≡ part_call → CallsRegion ⟦<R as Region>⟧ (machine_region self.old) (machine_region self.new) (machine_failure self.new) × (machine_loan self.new ≡ machine_loan self.old) × (fetcher.new ≡ fetcher.old) }
-        ensures on_loan { machine_spot self.old ≡ loan_call → (machine_region self.new ≡ machine_region self.old) × CallsLoan ⟦<R as Region>⟧ (machine_loan self.old) (machine_loan self.new) (machine_failure self.new) × (fetcher.new ≡ fetcher.old) }
-        ensures on_store { machine_spot self.old ≡ store_call → (machine_region self.new ≡ machine_region self.old) × (machine_loan self.new ≡ machine_loan self.old) × Asks (machine_fetching self.old) (told_now (F.holds fetcher.old) (F.fault_count fetcher.old) (F.fetches fetcher.old) (F.watch fetcher.old)) (told_now (F.holds fetcher.new) (F.fault_count fetcher.new) (F.fetches fetcher.new) (F.watch fetcher.new)) (machine_failure self.new) }
+        ensures on_part { CallsItsPart ⟦<R as Region>⟧ (seen self.old) (seen self.new) fetcher.old fetcher.new }
+        ensures on_loan { CallsItsLoan ⟦<R as Region>⟧ (seen self.old) (seen self.new) fetcher.old fetcher.new }
+        ensures on_store { CallsItsStore (seen self.old) (told_by ⟦<F as Fetcher>⟧ fetcher.old) (seen self.new) (told_by ⟦<F as Fetcher>⟧ fetcher.new) }
         ensures holds { F.holds fetcher.new ≡ F.holds fetcher.old }
-        ensures moves { Moves ⟦<R as Region>⟧ (seen self.old) (told_now (F.holds fetcher.old) (F.fault_count fetcher.old) (F.fetches fetcher.old) (F.watch fetcher.old)) (seen self.new) (told_now (F.holds fetcher.new) (F.fault_count fetcher.new) (F.fetches fetcher.new) (F.watch fetcher.new)) }
-        ensures causes { Causes ⟦<R as Region>⟧ (around (seen self.old) (told_now (F.holds fetcher.old) (F.fault_count fetcher.old) (F.fetches fetcher.old) (F.watch fetcher.old))) (around (seen self.new) (told_now (F.holds fetcher.new) (F.fault_count fetcher.new) (F.fetches fetcher.new) (F.watch fetcher.new))) (machine_failure self.new) }
+        ensures moves { Moves ⟦<R as Region>⟧ (seen self.old) (told_by ⟦<F as Fetcher>⟧ fetcher.old) (seen self.new) (told_by ⟦<F as Fetcher>⟧ fetcher.new) }
+        ensures causes { Causes ⟦<R as Region>⟧ (around (seen self.old) (told_by ⟦<F as Fetcher>⟧ fetcher.old)) (around (seen self.new) (told_by ⟦<F as Fetcher>⟧ fetcher.new)) (machine_failure self.new) }
+        ensures course { GoesAlong (seen self.old) (seen self.new) }
+        ensures makes { MakesIts ⟦<R as Region>⟧ (seen self.old) (seen self.new) }
+        ensures lent { ReadsOn ⟦<R as Region>⟧ (seen self.old) (seen self.new) }
     {
         let state = mem::replace(&mut self.state, State::Moving);
         let next = advance(state, &mut self.loan, fetcher);
@@ -296,6 +303,8 @@ impl Machine<MemRegion> {
         ensures calls { machine_cost self.new ≡ machine_cost self.old }
         ensures asks { machine_asks self.new ≡ machine_asks self.old }
         ensures fetching { machine_fetching self.new ≡ machine_fetching self.old }
+        ensures course { machine_course self.new ≡ machine_course self.old }
+        ensures reading { machine_reading self.new ≡ machine_reading self.old }
     {
         arm_stage(&mut self.state, &mut self.loan);
     }

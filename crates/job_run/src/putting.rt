@@ -1,13 +1,14 @@
 // The steps of a make that put something: one device call each, on the part.
 ghost use Rattle.std.specs.Prelude.{◌≡◌, ◌≤◌, ◌+◌, ℕ, List, Option, Some, None};
 ghost use Rattle.std.specs.Option.{ForSome};
+ghost use Rattle.job_run.specs.CourseStages.{Leads, MakesPart, making_course};
 ghost use Rattle.job_run.specs.Failures.{IsDiskCall};
 ghost use Rattle.job_run.specs.Stages.{IsMaking, making_cost};
 ghost use Rattle.job_run.specs.States.{Continues, failure_of, region_of};
 ghost use Rattle.fetch_port.specs.Fetches.{Blobs};
 ghost use Rattle.job_run.specs.Stages.{acts_asks, more_asks};
 ghost use Rattle.job_run.specs.States.{state_asks};
-ghost use Rattle.job_run.specs.Steps.{FetchingFrom, more_fetching, state_fetching};
+ghost use Rattle.job_run.specs.Steps.{FetchingFrom, more_fetching, part_call, state_fetching};
 
 use crate::acts::{held_bytes, held_piece};
 use crate::calls;
@@ -24,6 +25,8 @@ pub(crate) fn put_dir<R: Region>(mut region: R, order: Order, rel: Rel) -> State
     ensures goes { Continues (R.place region) order.tree order.lent (making_cost order (Doing.Dir rel)) result }
     ensures asks { state_asks result ≤ acts_asks order.method order.left.items }
     ensures from { (blobs : Option Blobs) → FetchingFrom blobs (state_fetching result) }
+    ensures course { Leads part_call (making_course order (Doing.Dir rel)) result }
+    ensures makes { MakesPart region (making_course order (Doing.Dir rel)) result }
 {
     let failure = calls::put_dir(&mut region, &rel);
     after_node(region, order, failure)
@@ -36,6 +39,8 @@ pub(crate) fn put_link<R: Region>(mut region: R, order: Order, rel: Rel, target:
     ensures goes { Continues (R.place region) order.tree order.lent (making_cost order (Doing.Link rel target)) result }
     ensures asks { state_asks result ≤ acts_asks order.method order.left.items }
     ensures from { (blobs : Option Blobs) → FetchingFrom blobs (state_fetching result) }
+    ensures course { Leads part_call (making_course order (Doing.Link rel target)) result }
+    ensures makes { MakesPart region (making_course order (Doing.Link rel target)) result }
 {
     let failure = calls::put_link(&mut region, &rel, &target);
     after_node(region, order, failure)
@@ -53,6 +58,8 @@ pub(crate) fn put_held<R: Region>(
     ensures goes { Continues (R.place region) order.tree order.lent (making_cost order (Doing.File filing (Filling.Held at))) result }
     ensures asks { state_asks result ≤ acts_asks order.method order.left.items }
     ensures from { (blobs : Option Blobs) → FetchingFrom blobs (state_fetching result) }
+    ensures course { Leads part_call (making_course order (Doing.File filing (Filling.Held at))) result }
+    ensures makes { MakesPart region (making_course order (Doing.File filing (Filling.Held at))) result }
 {
     let bytes = held_bytes(&order.method);
     let piece = held_piece(bytes, at);
@@ -80,6 +87,8 @@ pub(crate) fn put_got<R: Region>(
     ensures goes { Continues (R.place region) order.tree order.lent (making_cost order (Doing.File filing (Filling.Got from at piece more))) result }
     ensures asks { state_asks result ≤ more_asks order.method from more + acts_asks order.method order.left.items }
     ensures from { (blobs : Option Blobs) → FetchingFrom blobs (more_fetching filing.digest from more) → FetchingFrom blobs (state_fetching result) }
+    ensures course { Leads part_call (making_course order (Doing.File filing (Filling.Got from at piece more))) result }
+    ensures makes { MakesPart region (making_course order (Doing.File filing (Filling.Got from at piece more))) result }
 {
     let failure = calls::put_piece(&mut region, &filing.rel, filing.exec, at, piece.as_slice());
     match more {

@@ -3,10 +3,11 @@ ghost use Rattle.std.specs.Prelude.{◌≡◌, ◌<◌, ℕ, List, Option, Some,
 ghost use Rattle.std.specs.Option.{ForSome, is_some};
 ghost use Rattle.mat_tree.specs.declared.flat.Flat.{Flat};
 ghost use Rattle.region_port.specs.States.{loan_region, loan_tree};
+ghost use Rattle.job_run.specs.CourseStages.{Leads, LendsOn, MakesPart, doing_reading, filling_reading, making_course, state_course, state_reading};
 ghost use Rattle.job_run.specs.Failures.{IsDiskCall};
 ghost use Rattle.job_run.specs.Stages.{IsMaking, making_cost};
 ghost use Rattle.job_run.specs.States.{Continues, failure_of, has_ended, region_of, state_cost};
-ghost use Rattle.job_run.specs.Steps.{CallsLoan, CallsPart, DoingAsks, FillingAsks, Stands, StateAsks, doing_spot, filling_spot, loan_call, part_call, state_spot, store_call, told_now};
+ghost use Rattle.job_run.specs.Steps.{CallsLoan, CallsPart, DoingAsks, FillingAsks, Stands, StateAsks, doing_spot, filling_spot, loan_call, part_call, state_spot, store_call, told_by};
 ghost use Rattle.job_run.specs.Stages.{making_asks};
 ghost use Rattle.job_run.specs.States.{state_asks};
 ghost use Rattle.job_run.specs.Steps.{FetchingFrom, doing_fetching, filling_fetching, state_fetching};
@@ -34,10 +35,13 @@ fn fill<R: Region, F: Fetcher>(
     ensures loan { is_some loan.new ≡ is_some loan.old }
     ensures on_part { filling_spot how ≡ part_call → CallsPart region result × (loan.new ≡ loan.old) × (fetcher.new ≡ fetcher.old) }
     ensures on_loan { filling_spot how ≡ loan_call → (region_of result ≡ Some region) × CallsLoan ⟦<R as Region>⟧ loan.old loan.new (failure_of result) × (fetcher.new ≡ fetcher.old) }
-    ensures on_store { filling_spot how ≡ store_call → (region_of result ≡ Some region) × (loan.new ≡ loan.old) × FillingAsks filing how (told_now (F.holds fetcher.old) (F.fault_count fetcher.old) (F.fetches fetcher.old) (F.watch fetcher.old)) (told_now (F.holds fetcher.new) (F.fault_count fetcher.new) (F.fetches fetcher.new) (F.watch fetcher.new)) (failure_of result) }
+    ensures on_store { filling_spot how ≡ store_call → (region_of result ≡ Some region) × (loan.new ≡ loan.old) × FillingAsks filing how (told_by ⟦<F as Fetcher>⟧ fetcher.old) (told_by ⟦<F as Fetcher>⟧ fetcher.new) (failure_of result) }
     ensures holds { F.holds fetcher.new ≡ F.holds fetcher.old }
     ensures asks { F.fetches fetcher.new + state_asks result ≤ F.fetches fetcher.old + making_asks order (Doing.File filing how) }
     ensures from { FetchingFrom (F.holds fetcher.old) (filling_fetching filing.digest how) → FetchingFrom (F.holds fetcher.old) (state_fetching result) }
+    ensures course { Leads (filling_spot how) (making_course order (Doing.File filing how)) result }
+    ensures makes { filling_spot how ≡ part_call → MakesPart region (making_course order (Doing.File filing how)) result }
+    ensures lent { filling_spot how ≡ loan_call → LendsOn loan.old (making_course order (Doing.File filing how)) (filling_reading how) result }
 {
     match how {
         Filling::Held { at } => put_held(region, order, filing, at),
@@ -69,10 +73,13 @@ fn make<R: Region, F: Fetcher>(
     ensures loan { is_some loan.new ≡ is_some loan.old }
     ensures on_part { doing_spot making.doing ≡ part_call → CallsPart making.region result × (loan.new ≡ loan.old) × (fetcher.new ≡ fetcher.old) }
     ensures on_loan { doing_spot making.doing ≡ loan_call → (region_of result ≡ Some making.region) × CallsLoan ⟦<R as Region>⟧ loan.old loan.new (failure_of result) × (fetcher.new ≡ fetcher.old) }
-    ensures on_store { doing_spot making.doing ≡ store_call → (region_of result ≡ Some making.region) × (loan.new ≡ loan.old) × DoingAsks making.doing (told_now (F.holds fetcher.old) (F.fault_count fetcher.old) (F.fetches fetcher.old) (F.watch fetcher.old)) (told_now (F.holds fetcher.new) (F.fault_count fetcher.new) (F.fetches fetcher.new) (F.watch fetcher.new)) (failure_of result) }
+    ensures on_store { doing_spot making.doing ≡ store_call → (region_of result ≡ Some making.region) × (loan.new ≡ loan.old) × DoingAsks making.doing (told_by ⟦<F as Fetcher>⟧ fetcher.old) (told_by ⟦<F as Fetcher>⟧ fetcher.new) (failure_of result) }
     ensures holds { F.holds fetcher.new ≡ F.holds fetcher.old }
     ensures asks { F.fetches fetcher.new + state_asks result ≤ F.fetches fetcher.old + making_asks making.order making.doing }
     ensures from { FetchingFrom (F.holds fetcher.old) (doing_fetching making.doing) → FetchingFrom (F.holds fetcher.old) (state_fetching result) }
+    ensures course { Leads (doing_spot making.doing) (making_course making.order making.doing) result }
+    ensures makes { doing_spot making.doing ≡ part_call → MakesPart making.region (making_course making.order making.doing) result }
+    ensures lent { doing_spot making.doing ≡ loan_call → LendsOn loan.old (making_course making.order making.doing) (doing_reading making.doing) result }
 {
     let Making {
         region,
@@ -100,10 +107,13 @@ pub(crate) fn advance<R: Region, F: Fetcher>(
     ensures loan { is_some loan.new ≡ is_some loan.old }
     ensures on_part { state_spot state ≡ part_call → ForSome (region_of state) (λ before. CallsPart before result) × (loan.new ≡ loan.old) × (fetcher.new ≡ fetcher.old) }
     ensures on_loan { state_spot state ≡ loan_call → (region_of result ≡ region_of state) × CallsLoan ⟦<R as Region>⟧ loan.old loan.new (failure_of result) × (fetcher.new ≡ fetcher.old) }
-    ensures on_store { state_spot state ≡ store_call → (region_of result ≡ region_of state) × (loan.new ≡ loan.old) × StateAsks state (told_now (F.holds fetcher.old) (F.fault_count fetcher.old) (F.fetches fetcher.old) (F.watch fetcher.old)) (told_now (F.holds fetcher.new) (F.fault_count fetcher.new) (F.fetches fetcher.new) (F.watch fetcher.new)) (failure_of result) }
+    ensures on_store { state_spot state ≡ store_call → (region_of result ≡ region_of state) × (loan.new ≡ loan.old) × StateAsks state (told_by ⟦<F as Fetcher>⟧ fetcher.old) (told_by ⟦<F as Fetcher>⟧ fetcher.new) (failure_of result) }
     ensures holds { F.holds fetcher.new ≡ F.holds fetcher.old }
     ensures asks { F.fetches fetcher.new + state_asks result ≤ F.fetches fetcher.old + state_asks state }
     ensures from { FetchingFrom (F.holds fetcher.old) (state_fetching state) → FetchingFrom (F.holds fetcher.old) (state_fetching result) }
+    ensures course { Leads (state_spot state) (state_course state) result }
+    ensures makes { state_spot state ≡ part_call → ForSome (region_of state) (λ before. MakesPart before (state_course state) result) }
+    ensures lent { state_spot state ≡ loan_call → LendsOn loan.old (state_course state) (state_reading state) result }
 {
     match state {
         State::Wiping(region) => wipe(region),

@@ -29,10 +29,8 @@ use write_plan::{Method, Origin, Supply, plan};
 enum Armed {
     /// None.
     Nothing,
-    /// The first on the job's part.
-    Part,
-    /// The first on the store from this step on, counted from 0.
-    Store(usize),
+    /// That of this step, counted from 0.
+    Step(usize),
 }
 
 /// A node at a rel.
@@ -184,32 +182,42 @@ fn put(region: &mut MemRegion, rel: &Rel, bytes: &[u8]) -> Did
     Did::NoMemory
 }
 
-/// A disk that has a file of these bytes at a path and a rel below it, and nothing else.
-fn disk_with(alloc: Global, path: &Path, rel: &[u8], bytes: &[u8]) -> Result<MemDisk, Fail> {
-    let mut disk = MemDisk::new(alloc);
-    let rel = Rel::read(alloc, rel)?;
-    let mut region = disk.take(path)?;
-    let did = put(&mut region, &rel, bytes);
-    disk.give(region);
-    if did != Did::Done {
-        return Err(Fail::from(Memory));
+/// Puts files, each at its rel and of its bytes.
+fn put_all(alloc: Global, region: &mut MemRegion, files: &[(&[u8], &[u8])]) -> Result<(), Fail>
+    ensures { region_place region.new ≡ region_place region.old }
+{
+    for &(rel, bytes) in files {
+        let rel = Rel::read(alloc, rel)?;
+        if put(region, &rel, bytes) != Did::Done {
+            return Err(Fail::from(Memory));
+        }
     }
+    Ok(())
+}
+
+/// A disk that has these files at rels below a path, and nothing else.
+fn disk_with(alloc: Global, path: &Path, files: &[(&[u8], &[u8])]) -> Result<MemDisk, Fail> {
+    let mut disk = MemDisk::new(alloc);
+    let mut region = disk.take(path)?;
+    let all = put_all(alloc, &mut region, files);
+    disk.give(region);
+    all?;
     Ok(disk)
 }
 
-/// A part that is lent: it has a file of these bytes at this rel.
-fn lent(alloc: Global, rel: &[u8], bytes: &[u8], armed: bool) -> Result<ReadLoan<MemRegion>, Fail> {
+/// A part that is lent for these nodes: it has these files.
+fn lent(
+    alloc: Global,
+    nodes: &[Flat],
+    files: &[(&[u8], &[u8])],
+) -> Result<ReadLoan<MemRegion>, Fail> {
     let path = Path::read(alloc, b"in")?;
-    let mut disk = disk_with(alloc, &path, rel, bytes)?;
-    let nodes = one(alloc, bytes)?;
-    if disk.lent(&path) || !Flat::are_small(nodes.as_slice()) {
+    let mut disk = disk_with(alloc, &path, files)?;
+    if disk.lent(&path) || !Flat::are_small(nodes) {
         return Err(Fail::from(Memory));
     }
-    let tree = Tree::from_flat(alloc, nodes.as_slice())?;
-    let mut region = disk.take(&path)?;
-    if armed {
-        region.arm();
-    }
+    let tree = Tree::from_flat(alloc, nodes)?;
+    let region = disk.take(&path)?;
     Ok(ReadLoan::of(region, tree))
 }
 
@@ -238,6 +246,16 @@ fn step(job: &mut Job<MemRegion>, store: &mut MemStore, text: &mut Vec<u8>) -> R
     Ok(())
 }
 
+/// Makes the call of the next step fail.
+fn arm(job: &mut Job<MemRegion>, store: &mut MemStore)
+    ensures card { job_card job.new ≡ job_card job.old }
+{
+    match job.next() {
+        Next::Store => store.arm(),
+        _ => job.arm(),
+    }
+}
+
 /// Makes at most so many steps of a job.
 fn run(
     job: &mut Job<MemRegion>,
@@ -249,8 +267,8 @@ fn run(
     ensures card { job_card job.new ≡ job_card job.old }
 {
     for at in 0..steps {
-        if armed == Armed::Store(at) {
-            store.arm();
+        if armed == Armed::Step(at) {
+            arm(job, store);
         }
         step(job, store, text)?;
     }
@@ -390,7 +408,7 @@ fn told(
     requires out { list_any (same_names (task_path (job_card job).task)) (disk_loans disk.old) ≡ true }
 {
     let mut text = Vec::new(alloc);
-    run(&mut job, store, 20, armed, &mut text)?;
+    run(&mut job, store, 40, armed, &mut text)?;
     if !job.has_ended() {
         return Err(Fail::from(Memory));
     }
@@ -431,7 +449,7 @@ fn told_given_up(
 /// A disk that has a file of one byte at the path of each job.
 fn disk_before(alloc: Global) -> Result<(MemDisk, Path), Fail> {
     let path = Path::read(alloc, b"out/a")?;
-    let disk = disk_with(alloc, &path, b".", b"o")?;
+    let disk = disk_with(alloc, &path, &[(b".", b"o")])?;
     Ok((disk, path))
 }
 
@@ -448,10 +466,7 @@ fn told_make(
     if disk.lent(&path) {
         return Err(Fail::from(Memory));
     }
-    let mut region = disk.take(&path)?;
-    if armed == Armed::Part {
-        region.arm();
-    }
+    let region = disk.take(&path)?;
     let job = make(alloc, region, nodes, method, loan)?;
     told(alloc, job, store, &mut disk, armed)
 }
@@ -480,7 +495,7 @@ fn row_of(alloc: Global, bytes: &[u8], held: bool) -> Result<Method, Memory> {
 #[test]
 fn a_file_comes_in_pieces_from_its_row_or_the_store(rt: HostRuntime) -> Result<(), Fail> {
     let alloc = rt.alloc();
-    let cases: [(bool, usize, Armed, &[u8]); 8] = [
+    let cases: [(bool, usize, Armed, &[u8]); 11] = [
         (true, 3, Armed::Nothing, b"DDD made settled 3 - 0: .=3"),
         (true, 65_536, Armed::Nothing, b"DDD made settled 3 - 0: .=6"),
         (
@@ -504,20 +519,38 @@ fn a_file_comes_in_pieces_from_its_row_or_the_store(rt: HostRuntime) -> Result<(
         (
             false,
             65_537,
-            Armed::Store(1),
+            Armed::Step(1),
             b"DS fault of the store 0 1 rough 1 - 1:",
         ),
         (
             false,
             65_537,
-            Armed::Store(3),
+            Armed::Step(3),
             b"DSDS fault of the store 0 1 rough 2 - 1: .=6",
         ),
         (
             false,
             65_537,
-            Armed::Part,
+            Armed::Step(0),
             b"D fault of the disk 0 1 rough 1 - 0: .=1",
+        ),
+        (
+            true,
+            3,
+            Armed::Step(1),
+            b"DD fault of the disk 0 1 rough 2 - 0:",
+        ),
+        (
+            true,
+            65_537,
+            Armed::Step(2),
+            b"DDD fault of the disk 0 1 rough 3 - 0: .=6",
+        ),
+        (
+            true,
+            3,
+            Armed::Step(2),
+            b"DDD fault of the disk 0 1 rough 3 - 0: .=3",
         ),
     ];
     for (held, many, armed, want) in cases {
@@ -589,56 +622,114 @@ fn a_tree_is_put_in_a_call_for_each_act_and_reading(rt: HostRuntime) -> Result<(
     Ok(())
 }
 
+/// A make of one file, which is copied from what a lent part has at `x`; there it has these bytes at a rel.
+fn told_copy(
+    alloc: Global,
+    bytes: &[u8],
+    rel: &[u8],
+    found: &[u8],
+    origin: Origin,
+    armed: Armed,
+) -> Result<Vec<u8>, Fail> {
+    let mut store = MemStore::new(alloc);
+    store.put(Vec::from_slice(alloc, bytes)?)?;
+    let nodes = one(alloc, bytes)?;
+    let loan = lent(alloc, nodes.as_slice(), &[(rel, found)])?;
+    let method = copied(alloc, origin)?;
+    told_make(
+        alloc,
+        nodes.as_slice(),
+        method,
+        Some(loan),
+        &mut store,
+        armed,
+    )
+}
+
 #[test]
 fn a_lent_file_is_read_or_begun_again(rt: HostRuntime) -> Result<(), Fail> {
     let alloc = rt.alloc();
     let (large, other) = (blob(alloc, 65_537, b'a')?, blob(alloc, 65_537, b'b')?);
-    let cases: [(&[u8], &[u8], &[u8], bool, &[u8]); 5] = [
-        (b"abc", b"x", b"abc", false, b"DDDD made settled 3 1 0: .=3"),
+    let (large, other) = (large.as_slice(), other.as_slice());
+    let cases: [(&[u8], &[u8], &[u8], Armed, &[u8]); 6] = [
+        (
+            b"abc",
+            b"x",
+            b"abc",
+            Armed::Nothing,
+            b"DDDD made settled 3 1 0: .=3",
+        ),
         (
             b"abc",
             b"x",
             b"abd",
-            false,
+            Armed::Nothing,
             b"DDSDD made settled 3 1 1: .=3",
         ),
         (
             b"abc",
             b"y",
             b"abc",
-            false,
+            Armed::Nothing,
             b"DDSDD made settled 3 1 1: .=3",
         ),
         (
             b"abc",
             b"x",
             b"abc",
-            true,
+            Armed::Step(1),
             b"DD fault of the disk 0 1 rough 1 1 0:",
         ),
         (
-            large.as_slice(),
+            large,
             b"x",
-            other.as_slice(),
-            false,
+            large,
+            Armed::Step(3),
+            b"DDDD fault of the disk 0 1 rough 2 2 0: .=6",
+        ),
+        (
+            large,
+            b"x",
+            other,
+            Armed::Nothing,
             b"DDDDSDSDD made settled 5 2 1: .=7",
         ),
     ];
     for (bytes, rel, found, armed, want) in cases {
-        let mut store = MemStore::new(alloc);
-        store.put(Vec::from_slice(alloc, bytes)?)?;
-        let nodes = one(alloc, bytes)?;
-        let loan = lent(alloc, rel, found, armed)?;
-        let text = told_make(
-            alloc,
-            nodes.as_slice(),
-            copied(alloc, Origin::Store)?,
-            Some(loan),
-            &mut store,
-            Armed::Nothing,
-        )?;
+        let text = told_copy(alloc, bytes, rel, found, Origin::Store, armed)?;
         assert_eq!(rt; text.as_slice(), want);
     }
+    let held = Items::of(Vec::from_slice(alloc, b"abc")?);
+    let origin = Origin::Inline(held);
+    let text = told_copy(alloc, b"abc", b"x", b"abd", origin, Armed::Nothing)?;
+    assert_eq!(rt; text.as_slice(), b"DDDD made settled 3 1 0: .=3".as_slice());
+    Ok(())
+}
+
+#[test]
+fn a_lent_part_may_have_some_files(rt: HostRuntime) -> Result<(), Fail> {
+    let alloc = rt.alloc();
+    let mut store = MemStore::new(alloc);
+    store.put(Vec::from_slice(alloc, b"abc")?)?;
+    let mut nodes = Vec::new(alloc);
+    nodes.push(node(alloc, b".", What::Dir)?)?;
+    nodes.push(node(alloc, b"gone", file(b"abc", false))?)?;
+    nodes.push(node(alloc, b"kept", file(b"abc", false))?)?;
+    nodes.push(node(alloc, b"other", file(b"abc", false))?)?;
+    let files: [(&[u8], &[u8]); 2] = [(b"x/kept", b"abc"), (b"x/other", b"abd")];
+    let loan = lent(alloc, nodes.as_slice(), &files)?;
+    let text = told_make(
+        alloc,
+        nodes.as_slice(),
+        copied(alloc, Origin::Store)?,
+        Some(loan),
+        &mut store,
+        Armed::Nothing,
+    )?;
+    assert_eq!(rt;
+        text.as_slice(),
+        b"DDDSDDDDSDD made settled 6 3 2: ./ gone=3 kept=3 other=3".as_slice()
+    );
     Ok(())
 }
 
@@ -648,10 +739,7 @@ fn told_wipe(alloc: Global, armed: Armed) -> Result<Vec<u8>, Fail> {
     if disk.lent(&path) {
         return Err(Fail::from(Memory));
     }
-    let mut region = disk.take(&path)?;
-    if armed == Armed::Part {
-        region.arm();
-    }
+    let region = disk.take(&path)?;
     let job = wipe(region)?;
     told(alloc, job, &mut MemStore::new(alloc), &mut disk, armed)
 }
@@ -659,12 +747,77 @@ fn told_wipe(alloc: Global, armed: Armed) -> Result<Vec<u8>, Fail> {
 #[test]
 fn a_wipe_makes_two_calls(rt: HostRuntime) -> Result<(), Fail> {
     let alloc = rt.alloc();
-    let cases: [(Armed, &[u8]); 2] = [
+    let cases: [(Armed, &[u8]); 3] = [
         (Armed::Nothing, b"DD wiped bare 2 - 0:"),
-        (Armed::Part, b"D fault of the disk 0 1 rough 1 - 0: .=1"),
+        (Armed::Step(0), b"D fault of the disk 0 1 rough 1 - 0: .=1"),
+        (Armed::Step(1), b"DD fault of the disk 0 1 rough 2 - 0:"),
     ];
     for (armed, want) in cases {
         assert_eq!(rt; told_wipe(alloc, armed)?.as_slice(), want);
+    }
+    Ok(())
+}
+
+/// The tree of a program: 17 nodes, 12 of them files.
+fn program(alloc: Global) -> Result<Vec<Flat>, Fail> {
+    let mut nodes = Vec::new(alloc);
+    nodes.push(node(alloc, b".", What::Dir)?)?;
+    nodes.push(node(alloc, b"bin", What::Dir)?)?;
+    nodes.push(node(alloc, b"bin/app", file(b"abc", true))?)?;
+    nodes.push(node(alloc, b"bin/tool", file(b"a", true))?)?;
+    nodes.push(node(alloc, b"lib", What::Dir)?)?;
+    let library = Target::read(alloc, b"libapp.so.1")?;
+    nodes.push(node(alloc, b"lib/libapp.so", What::Link(library))?)?;
+    nodes.push(node(alloc, b"lib/libapp.so.1", file(b"b", false))?)?;
+    nodes.push(node(alloc, b"res", What::Dir)?)?;
+    let rels: [&[u8]; 9] = [
+        b"res/r0", b"res/r1", b"res/r2", b"res/r3", b"res/r4", b"res/r5", b"res/r6", b"res/r7",
+        b"res/r8",
+    ];
+    for rel in rels {
+        nodes.push(node(alloc, rel, file(b"c", false))?)?;
+    }
+    Ok(nodes)
+}
+
+/// A make of that tree, run to its end or to the call that fails.
+fn told_program(alloc: Global, armed: Armed) -> Result<Vec<u8>, Fail> {
+    let mut store = MemStore::new(alloc);
+    let blobs: [&[u8]; 4] = [b"abc", b"a", b"b", b"c"];
+    for bytes in blobs {
+        store.put(Vec::from_slice(alloc, bytes)?)?;
+    }
+    let nodes = program(alloc)?;
+    told_make(
+        alloc,
+        nodes.as_slice(),
+        Method::Fetch,
+        None,
+        &mut store,
+        armed,
+    )
+}
+
+#[test]
+fn each_call_of_a_make_may_fail(rt: HostRuntime) -> Result<(), Fail> {
+    let alloc = rt.alloc();
+    let calls = b"DDDSDSDDDSDDSDSDSDSDSDSDSDSDSDD";
+    let text = told_program(alloc, Armed::Nothing)?;
+    assert!(rt;
+        text.as_slice()
+            .starts_with(b"DDDSDSDDDSDDSDSDSDSDSDSDSDSDSDD made settled 9 - 2: ./ ")
+    );
+    for (at, &call) in calls.iter().enumerate() {
+        let text = told_program(alloc, Armed::Step(at))?;
+        let mut want = Vec::new(alloc);
+        for &one in calls.iter().take(at + 1) {
+            want.push(one)?;
+        }
+        let device: &[u8] = if call == b'S' { b"store" } else { b"disk" };
+        add(&mut want, b" fault of the ")?;
+        add(&mut want, device)?;
+        add(&mut want, b" 0 1 rough ")?;
+        assert!(rt; text.as_slice().starts_with(want.as_slice()));
     }
     Ok(())
 }
@@ -678,14 +831,14 @@ fn a_job_is_given_up_or_worked_off(rt: HostRuntime) -> Result<(), Fail> {
     let path = Path::read(alloc, b"out/a")?;
     let mut disk = MemDisk::new(alloc);
     let region = disk.take(&path)?;
-    let loan = lent(alloc, b"x", b"abd", false)?;
+    let loan = lent(alloc, nodes.as_slice(), &[(b"x", b"abd")])?;
     let method = copied(alloc, Origin::Store)?;
     let job = make(alloc, region, nodes.as_slice(), method, Some(loan))?;
     let text = told_given_up(alloc, job, &mut store, 4)?;
     assert_eq!(rt; text.as_slice(), b"DDSD rough 2 1".as_slice());
     let mut disk = MemDisk::new(alloc);
     let region = disk.take(&path)?;
-    let loan = lent(alloc, b"x", b"abd", false)?;
+    let loan = lent(alloc, nodes.as_slice(), &[(b"x", b"abd")])?;
     let method = copied(alloc, Origin::Store)?;
     let job = make(alloc, region, nodes.as_slice(), method, Some(loan))?;
     let text = told_at_once(alloc, job, &mut store, &mut disk)?;

@@ -11,6 +11,7 @@ use Rattle.job_run.specs.declared.states.Filling.TheVariants as filling
 use Rattle.job_run.specs.declared.states.Source.TheVariants as source
 use Rattle.mat_model.specs.declared.entries.Outcome.TheVariants as outcome
 use Rattle.job_run.proofs.Gets.{file_among, filled_goes, found_other, gets_last, gets_more, stopped_goes}
+use Rattle.job_run.proofs.Proceeding.{reads_on}
 use Rattle.job_run.proofs.getting.take_fetched.Goals as goal
 
 pub returns-in-More-clause-goes : goal.returns-in-More-clause-goes
@@ -45,3 +46,13 @@ returns-in-More-clause-from g c = λ blobs gives from.
     (gets_from blobs c.args.filing.digest c.args.reading c.in-More.reading c.args.piece.items (asked_for c.args.filing.digest.size c.args.reading.at)
     (λ given has. subst (λ (l : List ℕ). Takes c.args.filing.digest given l (taken.More c.in-More.reading)) c.as_slice.ensures.value (c.in-More.ensures.takes given has))
     gives from)
+
+pub returns-in-More-clause-course : goal.returns-in-More-clause-course
+returns-in-More-clause-course g c =
+    reads_on g.R.Region c.args.order c.args.filing source.Store c.args.reading c.args.piece (Some c.in-More.reading) c.filled.result c.filled.ensures.order
+    c.filled.ensures.doing
+
+pub returns-in-Last-clause-course : goal.returns-in-Last-clause-course
+returns-in-Last-clause-course g c =
+    reads_on g.R.Region c.args.order c.args.filing source.Store c.args.reading c.args.piece None c.filled-in-Last.result c.filled-in-Last.ensures.order
+    c.filled-in-Last.ensures.doing

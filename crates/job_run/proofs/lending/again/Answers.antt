@@ -7,6 +7,7 @@ use Rattle.job_run.specs.declared.states.Doing.TheVariants as doing
 use Rattle.job_run.specs.declared.states.Filling.TheVariants as filling
 use Rattle.job_run.specs.declared.states.Source.TheVariants as source
 use Rattle.job_run.proofs.Gets.{again_less, again_stands, filled_goes}
+use Rattle.job_run.proofs.Proceeding.{begins_again}
 use Rattle.job_run.proofs.lending.again.Goals as goal
 
 pub returns-clause-goes : goal.returns-clause-goes
@@ -17,3 +18,8 @@ returns-clause-goes g c = λ rel reading stands.
     (subst (λ (s : Supply). BeginsFrom s c.begin-how.result) c.own_supply.ensures c.begin-how.ensures.begins))
     (again_less c.args.order c.args.filing rel reading c.begin-how.result
     (c.begin-how.ensures.cost c.args.filing.digest.size ∙ ap (supply_cost c.args.filing.digest.size) c.own_supply.ensures))
+
+pub returns-clause-course : goal.returns-clause-course
+returns-clause-course g c = λ rel reading.
+    begins_again g.R.Region c.args.order c.args.filing rel reading _ c.begin-how.result c.filled.result c.filled.ensures.order c.filled.ensures.doing c.own_supply.ensures
+    c.begin-how.ensures.begins

@@ -9,6 +9,7 @@ use Rattle.job_run.specs.declared.states.Doing.TheVariants as doing
 use Rattle.job_run.specs.declared.states.Filling.TheVariants as filling
 use Rattle.job_run.specs.declared.states.Source.TheVariants as source
 use Rattle.job_run.proofs.Gets.{filled_goes, gets_last, gets_more}
+use Rattle.job_run.proofs.Proceeding.{reads_on}
 use Rattle.job_run.proofs.lending.take_lent.Goals as goal
 
 pub returns-in-More-clause-goes : goal.returns-in-More-clause-goes
@@ -35,3 +36,16 @@ returns-in-Last-clause-asks g c =
     let most = own_asks (own_supply c.args.order.method) + acts_asks c.args.order.method c.args.order.left.items in
     subst (λ (d : Doing). making_asks c.filled-in-Last.result.order d ≤ most) (sym c.filled-in-Last.ensures.doing)
     (subst (λ (o : Order). 0 + acts_asks o.method o.left.items ≤ most) (sym c.filled-in-Last.ensures.order) (omega arith))
+
+pub returns-in-More-clause-course : goal.returns-in-More-clause-course
+returns-in-More-clause-course g c =
+    reads_on g.R.Region c.args.order c.args.filing (source.Loan c.args.rel) c.args.reading c.args.piece (Some c.in-More.reading) c.filled.result c.filled.ensures.order
+    c.filled.ensures.doing
+
+pub returns-in-Last-clause-course : goal.returns-in-Last-clause-course
+returns-in-Last-clause-course g c =
+    reads_on g.R.Region c.args.order c.args.filing (source.Loan c.args.rel) c.args.reading c.args.piece None c.filled-in-Last.result c.filled-in-Last.ensures.order
+    c.filled-in-Last.ensures.doing
+
+pub returns-in-Wrong-clause-course : goal.returns-in-Wrong-clause-course
+returns-in-Wrong-clause-course g c = c.again.ensures.course c.args.rel c.args.reading

@@ -3,6 +3,12 @@ use Rattle.job_run.specs.Stages.{making_cost}
 use Rattle.job_run.specs.States.{Continues}
 use Rattle.job_run.specs.declared.states.Doing.TheVariants as doing
 use Rattle.job_run.proofs.Puts.{link_put}
+use Rattle.std.proofs.Common.{refl, sym, ◌∙◌}
+use Rattle.job_run.specs.CourseStages.{making_course, state_course}
+use Rattle.job_run.specs.Courses.{to_put}
+use Rattle.job_run.specs.Growing.{link_node}
+use Rattle.job_run.specs.Steps.{state_spot}
+use Rattle.job_run.proofs.Proceeding.{finishes}
 use Rattle.job_run.proofs.putting.put_link.Goals as goal
 
 pub after_node-requires-clause-behind : goal.after_node-requires-clause-behind
@@ -14,3 +20,8 @@ pub returns-clause-goes : goal.returns-clause-goes
 returns-clause-goes g c =
     subst (λ (p : List (List ℕ)). Continues p c.args.order.tree c.args.order.lent (making_cost c.args.order (doing.Link c.args.rel c.args.target)) c.after_node.result)
     c.put_link-failure.ensures.place (c.after_node.ensures.goes (making_cost c.args.order (doing.Link c.args.rel c.args.target)) (omega arith))
+
+pub returns-clause-course : goal.returns-clause-course
+returns-clause-course g c = λ none.
+    finishes c.args.order (state_spot c.after_node.result) (making_course c.args.order (doing.Link c.args.rel c.args.target)) (state_course c.after_node.result)
+    (to_put (link_node c.args.rel c.args.target)) refl refl refl refl (c.after_node.ensures.begun (sym c.after_node.ensures.failure ∙ none))

@@ -7,6 +7,11 @@ use Rattle.job_run.specs.Steps.{state_spot, told_now}
 use Rattle.job_run.proofs.Counting.{counted_after, counts_moved, stands_lent, stands_moved, stays_after}
 use Rattle.job_run.proofs.Moving.{stages_move}
 use Rattle.job_run.proofs.Sealed.{asked_so, called_so}
+use Rattle.std.proofs.Common.{◌≡◌, ◌⊎◌, None}
+use Rattle.job_run.specs.CourseStages.{state_course, state_reading}
+use Rattle.job_run.specs.Courses.{MissesLoan, Proceeds}
+use Rattle.job_run.specs.Steps.{loan_call}
+use Rattle.job_run.proofs.Proceeding.{both_moved, made_so}
 use Rattle.job_run.proofs.machine.Machine.step.Goals as goal
 
 pub advance-next-requires-clause-stands : goal.advance-next-requires-clause-stands
@@ -156,3 +161,39 @@ returns-clause-causes g c =
     (λ spot. let all = done.on_part spot in (all.0, all.1, ap (λ x. told_now (f.holds x) (f.fault_count x) (f.fetches x) (f.watch x)) all.2))
     (λ spot. let all = done.on_loan spot in (all.0, all.1, ap (λ x. told_now (f.holds x) (f.fault_count x) (f.fetches x) (f.watch x)) all.2))
     done.on_store done.holds done.asks done.from).1
+
+pub returns-then-is_over-clause-course : goal.returns-then-is_over-clause-course
+returns-then-is_over-clause-course g c =
+    both_moved {g = g.R.Region} (λ a b. failure_of b ≡ None → Proceeds (state_spot a) (state_spot b) (state_course a) (state_course b)) c.args.self.now.state c.replace-state.result
+    c.advance-next.result c.settle_in.new.place c.replace-state.ensures.value c.settle_in.ensures c.advance-next.ensures.course
+
+pub returns-then-is_over-clause-makes : goal.returns-then-is_over-clause-makes
+returns-then-is_over-clause-makes g c =
+    let j = c.args.self.now in
+    made_so (task_path j.card.task) (goal_tree j.goal.value) (is_some j.loan) j.state c.replace-state.result c.advance-next.result c.settle_in.new.place c.replace-state.ensures.value
+    c.settle_in.ensures c.requires.job.stands (c.advance-next.ensures.stands (task_path j.card.task) (goal_tree j.goal.value)) c.advance-next.ensures.makes
+
+pub returns-then-is_over-clause-lent : goal.returns-then-is_over-clause-lent
+returns-then-is_over-clause-lent g c =
+    let r = g.R.Region in
+    let j = c.args.self.now in
+    both_moved {g = r} (λ a b. state_spot a ≡ loan_call → failure_of b ≡ None → ((state_course b).from ≡ (state_course a).from) ⊎ MissesLoan r j.loan (state_course a) (state_reading a))
+    j.state c.replace-state.result c.advance-next.result c.settle_in.new.place c.replace-state.ensures.value c.settle_in.ensures c.advance-next.ensures.lent
+
+pub returns-clause-course : goal.returns-clause-course
+returns-clause-course g c =
+    both_moved {g = g.R.Region} (λ a b. failure_of b ≡ None → Proceeds (state_spot a) (state_spot b) (state_course a) (state_course b)) c.args.self.now.state c.replace-state.result
+    c.advance-next.result c.settle_in.new.place c.replace-state.ensures.value c.settle_in.ensures c.advance-next.ensures.course
+
+pub returns-clause-makes : goal.returns-clause-makes
+returns-clause-makes g c =
+    let j = c.args.self.now in
+    made_so (task_path j.card.task) (goal_tree j.goal.value) (is_some j.loan) j.state c.replace-state.result c.advance-next.result c.settle_in.new.place c.replace-state.ensures.value
+    c.settle_in.ensures c.requires.job.stands (c.advance-next.ensures.stands (task_path j.card.task) (goal_tree j.goal.value)) c.advance-next.ensures.makes
+
+pub returns-clause-lent : goal.returns-clause-lent
+returns-clause-lent g c =
+    let r = g.R.Region in
+    let j = c.args.self.now in
+    both_moved {g = r} (λ a b. state_spot a ≡ loan_call → failure_of b ≡ None → ((state_course b).from ≡ (state_course a).from) ⊎ MissesLoan r j.loan (state_course a) (state_reading a))
+    j.state c.replace-state.result c.advance-next.result c.settle_in.new.place c.replace-state.ensures.value c.settle_in.ensures c.advance-next.ensures.lent
