@@ -29,9 +29,9 @@ use Rattle.restart_scan.specs.Opened.{AreKept, AreReady, IsMadeOf, IsOf, are_kep
 use Rattle.restart_scan.specs.Rows.{first_overlap, kept_at, kept_in, kept_view, overlap_behind}
 use Rattle.restart_scan.specs.declared.kept.Kept.{Kept}
 use Rattle.std.proofs.lemmas.List.{map_push, take_more}
-use Rattle.restart_scan.specs.Scans.{HasStrays, count_of}
+use Rattle.restart_scan.specs.Scans.{count_of}
 use Rattle.restart_scan.specs.declared.kept.Body.{Body}
-use Rattle.region_port.specs.Strays.{AreFound, AreTold}
+use Rattle.region_port.specs.Strays.{AreFound}
 use Rattle.mat_tree.specs.Parts.{Part}
 
 -- ---- order
@@ -254,7 +254,7 @@ found_push stamp (row ∷ rest) one =
     next : (n : ℕ) → (stamp + 1) + n ≡ stamp + suc n
     next n = omega arith
 
-found_length : (stamp : ℕ) (kept : List KeptRow) → length (found_rows stamp kept) ≡ length kept
+pub found_length : (stamp : ℕ) (kept : List KeptRow) → length (found_rows stamp kept) ≡ length kept
 found_length stamp [] = refl
 found_length stamp (row ∷ rest) = ap (λ (n : ℕ). suc n) (found_length (stamp + 1) rest)
 
@@ -319,13 +319,6 @@ is_ready kept content astray ready found = record {
   strays = paths_ascend astray found.ordered;
   free = λ path. subst (λ (l : List (List (List ℕ))). covering path (l ++ map path_of_kept kept) ≤ 1) (sym (append-nil astray)) (found.apart path);
 }
-
--- and the strays are those past the paths of the rows
-pub has_strays : (kept : List KeptRow) (content : Option Part) (opening : Opening) → IsMadeOf kept [] opening.strays opening →
-    AreFound (map path_of_kept kept) content opening.strays → HasStrays content opening
-has_strays kept content opening made found =
-    subst (λ (rows : List Row). AreTold (map path_of_row rows) content opening.strays) (sym made.rows)
-    (subst (λ (known : List (List (List ℕ))). AreTold known content opening.strays) (sym (found_paths 0 kept)) found.told)
 
 -- where nothing is lost, all is found
 all_found : (kept : List KeptRow) → filter (is_found []) kept ≡ kept

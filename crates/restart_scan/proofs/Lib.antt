@@ -1,5 +1,10 @@
 pub mod Calls
 pub mod Found
+pub mod LookLemmas
+pub mod LostLemmas
+pub mod ReadLemmas
 pub mod ReadRows
+pub mod ScanLemmas
+pub mod SortLemmas
 pub mod StoredRows
 pub mod Telling

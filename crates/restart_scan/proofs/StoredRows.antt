@@ -244,18 +244,19 @@ again opening stamp (row ∷ rest) each =
     twice true = refl
     twice false = refl
 
-pub kept_again : (kept : List KeptRow) (opening : Opening) → are_kept_apart kept ≡ true → IsMadeOf kept [] opening.strays opening → kept_rows_of opening ≡ kept
-kept_again kept opening apart made =
-    ap (map (kept_at_opening opening)) made.rows
+pub kept_again : (kept : List KeptRow) (opening : Opening) → are_kept_apart kept ≡ true → opening.rows ≡ found_rows 0 kept →
+    opening.version1 ≡ old_paths kept → kept_rows_of opening ≡ kept
+kept_again kept opening apart rows version1 =
+    ap (map (kept_at_opening opening)) rows
     ∙ again opening 0 kept (λ one among.
-    subst (λ (ps : List (List (List ℕ))). list_any (same_names one.path) ps ≡ not one.new) (sym made.version1) (version_of kept one apart among))
+    subst (λ (ps : List (List (List ℕ))). list_any (same_names one.path) ps ≡ not one.new) (sym version1) (version_of kept one apart among))
 
 -- ---- what the state store tells
 
 -- an opening is kept as the kept rows that it was made of
 pub stores_opening : (identity : ℕ) (told : Option (List RawRow)) (kept : List KeptRow) (opening : Opening) → are_kept_apart kept ≡ true →
     IsMadeOf kept [] opening.strays opening → Stores identity told kept → Stores identity told (kept_rows_of opening)
-stores_opening identity told kept opening apart made stores = subst (λ (l : List KeptRow). Stores identity told l) (sym (kept_again kept opening apart made)) stores
+stores_opening identity told kept opening apart made stores = subst (λ (l : List KeptRow). Stores identity told l) (sym (kept_again kept opening apart made.rows made.version1)) stores
 
 pub stores_told : (identity : ℕ) (told : Option (List RawRow)) (raws : List RawRow) (kept : List KeptRow) → AreThese told raws → ascend raws ≡ true →
     AreOf identity kept raws → Stores identity told kept

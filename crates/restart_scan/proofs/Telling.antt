@@ -14,7 +14,8 @@ use Rattle.restart_scan.proofs.Found.{count_made, is_of}
 use Rattle.keep_port.specs.declared.row.RawRow.{RawRow}
 use Rattle.mat_model.specs.Kept.{KeptRow}
 use Rattle.restart_scan.specs.Rows.{Gives, Read, kept_list, kept_rows, kept_view}
-use Rattle.restart_scan.specs.Scans.{AnswersTold, CallsBy, IsDiskWhy, IsKeeperWhy, NotesKeeper, Opens, Reads, ReadsTold, Refuses, count_of, disk_failed, is_of_disk, is_of_keeper, keeper_failed}
+use Rattle.restart_scan.specs.Scans.{AnswersTold, CallsBy, IsDiskWhy, IsKeeperWhy, NotesKeeper, Opens, Reads, ReadsTold, Refuses, count_of}
+use Rattle.restart_scan.specs.Faults.{disk_failed, is_of_disk, is_of_keeper, keeper_failed}
 use Rattle.restart_scan.specs.declared.kept.Kept.{Kept}
 use Rattle.restart_scan.specs.declared.refusal.ScanRefusal.{ScanRefusal}
 use Rattle.restart_scan.specs.declared.refusal.ScanRefusal.TheVariants as refusal
@@ -61,7 +62,7 @@ reads_told most identity (Some kept) raws result these h =
     subst (λ (rows : List RawRow). Reads result (kept_rows most identity rows)) these (reads_given result (kept_rows most identity raws) h)
 
 -- a refusal of the state store's call says nothing of its rows
-refuses_any : (why : ScanRefusal) (read : Read (List KeptRow)) → IsKeeperWhy why → Refuses why read
+pub refuses_any : (why : ScanRefusal) (read : Read (List KeptRow)) → IsKeeperWhy why → Refuses why read
 refuses_any (refusal.KeeperFault note) read h = tt
 refuses_any (refusal.DiskFault note) read h = absurd h
 refuses_any (refusal.BadPath text) read h = absurd h

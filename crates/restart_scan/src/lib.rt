@@ -3,13 +3,15 @@
 
 mod kept;
 mod laws;
+mod look;
 mod opening;
 mod reading;
 mod refusal;
-mod scan;
+mod scanning;
+mod sort;
 #[cfg(test)]
 mod tests;
 
 pub use laws::neighbours_are_enough;
 pub use refusal::ScanRefusal;
-pub use scan::scan_rows;
+pub use scanning::{Entrance, scan};

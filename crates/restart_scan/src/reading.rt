@@ -11,7 +11,7 @@ ghost use Rattle.model_laws.specs.KeptRules.{KeptAscend};
 ghost use Rattle.restart_scan.specs.Opened.{AreKept, are_kept_apart};
 ghost use Rattle.restart_scan.specs.Rows as Spec;
 ghost use Rattle.restart_scan.specs.Stores.{AreOf, IsAdded};
-ghost use Rattle.restart_scan.specs.Scans.{disk_failed, keeper_failed};
+ghost use Rattle.restart_scan.specs.Faults.{disk_failed, keeper_failed};
 
 use crate::kept::{Body, Kept};
 use crate::refusal::ScanRefusal;

@@ -1,8 +1,11 @@
-use crate::{ScanRefusal, scan_rows};
-use keep_port::{Keeper, MemKeeper, RawRow};
+ghost use Rattle.std.specs.Prelude.{◌≡◌, []};
+
+use crate::{Entrance, ScanRefusal, scan};
+use keep_port::{All, Keeper, MemKeeper, RawRow};
+use mat_io::Arm;
 use mat_model::{Device, Opening};
-use mat_path::{Items, Path};
-use region_port::MemDisk;
+use mat_path::{Items, Path, Rel};
+use region_port::{Disk, MemDisk, Region};
 use row_bytes::{read_row, write_row};
 use std::alloc::Global;
 use std::test::Fail;
@@ -148,8 +151,63 @@ fn told(alloc: Global, answer: &Result<Opening, ScanRefusal>) -> Result<Vec<u8>,
 fn scanned(alloc: Global, kept: &[(&[u8], Bytes)], most: u64) -> Result<Vec<u8>, Fail> {
     let mut keeper = keeper_of(alloc, kept)?;
     let mut disk = MemDisk::new(alloc);
-    let answer = scan_rows(alloc, &mut keeper, &mut disk, most, 7);
+    let entrance = Entrance {
+        identity: 7,
+        check: false,
+    };
+    let answer = scan(alloc, &mut keeper, &mut disk, most, entrance);
     told(alloc, &answer)
+}
+
+/// Puts a file at a path of a disk that lends nothing.
+fn put_file<D: Disk>(alloc: Global, disk: &mut D, path: &[u8], bytes: &[u8]) -> Result<(), Fail>
+    requires { D.lent disk.old ≡ [] }
+    ensures { D.lent disk.new ≡ [] }
+{
+    let path = Path::read(alloc, path)?;
+    let rel = Rel::root(alloc);
+    let mut region = disk.take(&path)?;
+    if region.path().can_join(&rel) {
+        region.put_file(&rel, false, bytes);
+    }
+    disk.give(region);
+    Ok(())
+}
+
+/// What is armed before an opening.
+#[derive(Clone, Copy, Debug, PartialEq, Eq)]
+enum Armed {
+    Nothing,
+    Disk,
+    Keeper,
+}
+
+/// What a check answers over a state store with these rows and a disk with a file at `p`, and how many rows the state store has then.
+fn checked(
+    alloc: Global,
+    kept: &[(&[u8], Bytes)],
+    bytes: &[u8],
+    armed: Armed,
+) -> Result<Vec<u8>, Fail> {
+    let mut keeper = keeper_of(alloc, kept)?;
+    let mut disk = MemDisk::new(alloc);
+    put_file(alloc, &mut disk, b"p", bytes)?;
+    if armed == Armed::Disk {
+        disk.arm();
+    }
+    if armed == Armed::Keeper {
+        keeper.arm();
+    }
+    let entrance = Entrance {
+        identity: 7,
+        check: true,
+    };
+    let answer = scan(alloc, &mut keeper, &mut disk, 9, entrance);
+    let mut text = told(alloc, &answer)?;
+    if let All::Rows(rows) = keeper.all() {
+        text.push(digit(rows.as_slice().len() as u64))?;
+    }
+    Ok(text)
 }
 
 #[test]
@@ -210,5 +268,38 @@ fn nodes_need_paths(rt: HostRuntime) -> Result<(), Fail> {
     assert_eq!(rt; scanned(alloc, &file, 1)?.as_slice(), right.as_slice());
     let folder = [(deep.as_slice(), Bytes::Folder)];
     assert_eq!(rt; scanned(alloc, &folder, 1)?.as_slice(), wrong.as_slice());
+    Ok(())
+}
+
+#[test]
+fn parts_are_looked_at(rt: HostRuntime) -> Result<(), Fail> {
+    let alloc = rt.alloc();
+    let file = [
+        (b"p".as_slice(), Bytes::First),
+        (b"q".as_slice(), Bytes::Second(7)),
+    ];
+    let found = checked(alloc, &file, b"abc", Armed::Nothing)?;
+    assert_eq!(rt; found.as_slice(), b"p 03 1p-q1".as_slice());
+    let differs = checked(alloc, &file, b"abd", Armed::Nothing)?;
+    assert_eq!(rt; differs.as_slice(), b"-p-q0".as_slice());
+    let longer = checked(alloc, &file, b"abcd", Armed::Nothing)?;
+    assert_eq!(rt; longer.as_slice(), b"-p-q0".as_slice());
+    let other = [(b"q".as_slice(), Bytes::Folder)];
+    let stray = checked(alloc, &other, b"abc", Armed::Nothing)?;
+    assert_eq!(rt; stray.as_slice(), b"-q?p0".as_slice());
+    Ok(())
+}
+
+#[test]
+fn devices_may_fail(rt: HostRuntime) -> Result<(), Fail> {
+    let alloc = rt.alloc();
+    let file = [(b"p".as_slice(), Bytes::First)];
+    let disk = checked(alloc, &file, b"abc", Armed::Disk)?;
+    assert_eq!(rt; disk.as_slice(), b"dD011".as_slice());
+    let keeper = checked(alloc, &file, b"abc", Armed::Keeper)?;
+    assert_eq!(rt; keeper.as_slice(), b"kK011".as_slice());
+    let cut = [(b"p".as_slice(), Bytes::Cut)];
+    let both = checked(alloc, &cut, b"abc", Armed::Disk)?;
+    assert_eq!(rt; both.as_slice(), b"row 3p1".as_slice());
     Ok(())
 }

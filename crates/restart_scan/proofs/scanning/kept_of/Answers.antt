@@ -3,7 +3,7 @@ use Rattle.keep_port.specs.declared.row.RawRow.{RawRow}
 use Rattle.restart_scan.proofs.Telling.{stored_rows}
 use Rattle.restart_scan.specs.Rows.{kept_list}
 use Rattle.restart_scan.specs.Stores.{AreOf}
-use Rattle.restart_scan.proofs.scan.kept_of.Goals as goal
+use Rattle.restart_scan.proofs.scanning.kept_of.Goals as goal
 
 pub returns-clause-store : goal.returns-clause-store
 returns-clause-store g c =

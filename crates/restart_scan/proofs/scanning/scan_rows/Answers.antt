@@ -1,5 +1,5 @@
 use Rattle.restart_scan.proofs.Telling.{few_rows, stored_opening}
-use Rattle.restart_scan.proofs.scan.scan_rows.Goals as goal
+use Rattle.restart_scan.proofs.scanning.scan_rows.Goals as goal
 
 pub returns-clause-store : goal.returns-clause-store
 returns-clause-store g c =
