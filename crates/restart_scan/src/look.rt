@@ -7,7 +7,10 @@ ghost use Rattle.mat_tree.specs.Parts.{Part};
 ghost use Rattle.mat_tree.specs.Trees.{IsTree, greatest_file, is_small};
 ghost use Rattle.region_port.specs.Calls.{nowhere};
 ghost use Rattle.region_port.specs.Reads.{file_bytes};
-ghost use Rattle.restart_scan.specs.Faults.{IsLookWhy, disk_failed};
+ghost use Rattle.mat_model.specs.declared.answers.Device.TheVariants as device;
+ghost use Rattle.restart_scan.specs.Faults.{IsLookWhy, disk_failed, note_of};
+ghost use Rattle.restart_scan.specs.Scans.{NotesDisk};
+ghost use Rattle.restart_scan.specs.declared.refusal.ScanRefusal.TheVariants.{DiskFault};
 ghost use Rattle.restart_scan.specs.Looks as Spec;
 
 use crate::refusal::ScanRefusal;
@@ -24,7 +27,8 @@ const PIECE: u32 = 65_536;
 // The fault of a call on a part, with the counts around it.
 fn fault(before: u64, after: u64) -> ScanRefusal
     requires { Rose before after }
-    ensures { IsLookWhy result }
+    ensures why { IsLookWhy result }
+    ensures is { result ≡ DiskFault (note_of device.Disk before after) }
 {
     ScanRefusal::DiskFault(FaultNote {
         device: Device::Disk,
@@ -38,6 +42,7 @@ fn sync<R: Region>(region: &mut R) -> Result<(), ScanRefusal>
     ensures place { R.place region.new ≡ R.place region.old }
     ensures part { R.part region.new ≡ R.part region.old }
     ensures rough { R.rough region.new ≡ (if is_ok result then nowhere else R.rough region.old) }
+    ensures note { NotesDisk (R.fault_count region.old) (R.fault_count region.new) result }
     ensures why { IfErr result (λ why. IsLookWhy why) }
     ensures counted { disk_failed result ≡ true → 1 ≤ R.fault_count region.new }
 {
@@ -55,6 +60,7 @@ fn list<R: Region>(region: &mut R) -> Result<Option<Items<Seen>>, ScanRefusal>
     ensures part { R.part region.new ≡ R.part region.old }
     ensures rough { R.rough region.new ≡ R.rough region.old }
     ensures shows { IfOk result (λ nodes. Spec.Shows (R.part region.old) nodes) }
+    ensures note { NotesDisk (R.fault_count region.old) (R.fault_count region.new) result }
     ensures why { IfErr result (λ why. IsLookWhy why) }
     ensures counted { disk_failed result ≡ true → 1 ≤ R.fault_count region.new }
 {
@@ -74,6 +80,7 @@ fn read<R: Region>(region: &mut R, rel: &Rel, at: u64) -> Result<Option<Items<u8
     ensures rough { R.rough region.new ≡ R.rough region.old }
     ensures gives { IfOk result (λ given. Spec.GivesPiece rel.now at 65536 (R.part region.old) given) }
     ensures short { IfOk result (λ given. ForSome given (λ bytes. length bytes ≤ 65536)) }
+    ensures note { NotesDisk (R.fault_count region.old) (R.fault_count region.new) result }
     ensures why { IfErr result (λ why. IsLookWhy why) }
     ensures counted { disk_failed result ≡ true → 1 ≤ R.fault_count region.new }
 {
