@@ -21,7 +21,7 @@ use Rattle.restart_scan.specs.Looks.{HasStill, IsNoRougher}
 use Rattle.restart_scan.specs.Opened.{IsOf, are_kept_apart}
 use Rattle.restart_scan.specs.Rows.{Read, kept_list, kept_rows}
 use Rattle.restart_scan.specs.Scans.{AnswersTold, CallsKeeper, CallsKeeperBy, CallsOnceOrTwice, IsDiskNoted, IsKeeperNote, IsKeeperNoted, IsKeeperWhy, IsLessLost, IsNoted, Loses, LosesTold, NotesDisk, NotesKeeper, Opens, ReadsTold, Refuses, less, watch_less}
-use Rattle.restart_scan.specs.Sorting.{AreLost}
+use Rattle.restart_scan.specs.Sorting.{AreLost, AreLostTold}
 use Rattle.restart_scan.specs.Stores.{Stores, kept_rows_of}
 use Rattle.restart_scan.specs.declared.kept.Kept.{Kept}
 use Rattle.restart_scan.specs.declared.refusal.ScanRefusal.{ScanRefusal}
@@ -86,6 +86,13 @@ stored_less identity before after kept content opening apart store of gone remov
     (subst (λ (rows : List KeptRow). Stores identity (option_map (less opening.lost) before) rows)
     (sym (kept_again (filter (is_found opening.lost) kept) opening (apart_filtered (is_found opening.lost) kept apart) of.rows of.version1))
     (less_stores identity before kept opening.lost apart gone.order store))
+
+-- lost paths are those of kept rows that the state store has
+pub lost_told : (identity : ℕ) (told : Option (List RawRow)) (kept : List KeptRow) (content : Option Part) (lost : List (List (List ℕ))) →
+    Stores identity told kept → AreLost content kept lost → AreLostTold identity told content lost
+lost_told identity None kept content lost stored gone rows is = absurd cc
+lost_told identity (Some raws) kept content lost stored gone rows is =
+    let same : raws ≡ rows = cc in record { kept = kept; stored = subst (IsStore identity kept) same stored; gone = gone }
 
 -- without a lost row all are left
 less_nothing : (told : Option (List RawRow)) → told ≡ option_map (less []) told

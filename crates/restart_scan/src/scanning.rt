@@ -11,7 +11,7 @@ ghost use Rattle.restart_scan.specs.Rows.{kept_list};
 ghost use Rattle.restart_scan.specs.Scans.{AnswersTold, IsDiskWhy, IsKeeperWhy, NotesDisk, CallsDisk, HasStrays, NotesKeeper, ReadsTold, CallsKeeper, IsDiskNoted, IsKeeperNoted, IsLessLost, IsRemoved, LosesTold, count_of, watch_less};
 ghost use Rattle.restart_scan.specs.Faults.{IsLookWhy, disk_failed, keeper_failed};
 ghost use Rattle.restart_scan.specs.Looks.{HasStill, IsNoRougher};
-ghost use Rattle.restart_scan.specs.Sorting.{AreChecked, AreLost};
+ghost use Rattle.restart_scan.specs.Sorting.{AreChecked, AreLost, AreLostTold};
 ghost use Rattle.restart_scan.specs.Stores.{Stores, kept_rows_of};
 
 use crate::kept::Kept;
@@ -180,6 +180,7 @@ fn scan_parts<D: Disk, K: Keeper>(
     ensures right { IfOk result (λ opening. IsOpening opening) }
     ensures answers { AnswersTold most identity (K.kept keeper.old) result }
     ensures lost { IfOk result (λ opening. LosesTold most identity (K.kept keeper.old) (D.content disk.old) opening) }
+    ensures gone { IfOk result (λ opening. AreLostTold identity (K.kept keeper.old) (D.content disk.old) opening.lost) }
     ensures checked { IfOk result (λ opening. AreChecked (D.content disk.new) (D.rough disk.new) opening) }
     ensures store { IfOk result (λ opening. Stores identity (K.kept keeper.new) (kept_rows_of opening)) }
     ensures few { IfOk result (λ opening. count_of opening ≤ most) }
@@ -264,6 +265,7 @@ pub fn scan<D: Disk, K: Keeper>(
     ensures answers { AnswersTold rows entrance.identity (K.kept keeper.old) result }
     ensures unlooked { entrance.check ≡ false → IfOk result (λ opening. opening.lost ≡ []) }
     ensures lost { entrance.check ≡ true → IfOk result (λ opening. LosesTold rows entrance.identity (K.kept keeper.old) (D.content disk.old) opening) }
+    ensures gone { entrance.check ≡ true → IfOk result (λ opening. AreLostTold entrance.identity (K.kept keeper.old) (D.content disk.old) opening.lost) }
     ensures checked { entrance.check ≡ true → IfOk result (λ opening. AreChecked (D.content disk.new) (D.rough disk.new) opening) }
     ensures store { IfOk result (λ opening. Stores entrance.identity (K.kept keeper.new) (kept_rows_of opening)) }
     ensures few { IfOk result (λ opening. count_of opening ≤ rows) }
