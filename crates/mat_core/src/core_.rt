@@ -43,7 +43,7 @@ pub enum Poll {
 
 /// The daemon's book, its work and its devices.
 pub struct Core<D: Disk, K: Keeper> {
-    parts: Parts<D, K>,
+    pub(crate) parts: Parts<D, K>,
 }
 
 impl<D: Disk, K: Keeper> Model for Core<D, K> {

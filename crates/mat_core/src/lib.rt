@@ -15,7 +15,9 @@ mod opening;
 mod opening_debris;
 mod parts;
 mod room;
+mod starting;
 
 pub use base::Base;
 pub use core_::{Core, Place, Poll};
 pub use laws::{begin_keeps_core, end_keeps_core, refusal_keeps_core, untouched_devices_keep_core};
+pub use starting::Shut;
