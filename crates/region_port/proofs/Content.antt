@@ -1,138 +1,153 @@
--- What a list of entries has at each path, with one more, or with those of one part alone.
-use Rattle.mat_path.proofs.Elements.{filter_all}
+-- What a list of entries has at each path, once one was put, or a part was cut out or hung in.
 use Rattle.mat_path.proofs.PathLemmas.{prefix-append}
-use Rattle.mat_path.proofs.SameNames.{is_prefix-Decides, same_names-Decides, same_names-behind, same_names-eq, same_names-refl, same_names-sym}
-use Rattle.std.proofs.Common.{◌≡◌, ℕ, Bool, true, false, cond, not, List, [], ◌∷◌, ◌++◌, length, drop, refl, ap, sym, ◌∙◌, ◌<◌, suc, take}
+use Rattle.mat_path.proofs.SameNames.{is_prefix-Decides, same_names-behind, same_names-eq, same_names-refl}
+use Rattle.std.proofs.Common.{◌≡◌, ℕ, Bool, true, false, cond, List, ◌++◌, length, drop, refl, ap, sym, ◌∙◌, ◌≤◌, arith}
 use Rattle.std.specs.Prelude.{Option, Some, None}
-use Rattle.std.specs.List.{filter, list_all, remove, slice_get}
-use Rattle.std.specs.Option.{ForSome, option_map, option_or}
+use Rattle.std.specs.List.{filter}
+use Rattle.std.specs.Option.{ForSome, option_map}
 use mathlib.Core.Bool.{true≢false}
-use Rattle.std.proofs.Math.Seq.{drop-cons}
-use Rattle.std.proofs.lemmas.List.{take-append-drop}
-use Rattle.std.proofs.lemmas.Option.{get_or_from_slice_get, none-some, same_Some}
+use Rattle.std.proofs.lemmas.Option.{none-some, same_Some}
+use Rattle.path_trie.specs.Entries.{cut_at, is_at, is_under, put, spliced, value_at, value_of}
+use Rattle.path_trie.proofs.PartValues.{value_cut, value_spliced}
+use Rattle.path_trie.proofs.Values.{find_gone, find_kept, value_put}
 use Rattle.region_port.specs.Calls.{appended, is_file, with_more}
 use Rattle.mat_path.specs.Names.{same_names, is_prefix}
 use Rattle.mat_tree.specs.Parts.{Node, Part, file, folder, link, below, without, with_node, replaced}
-use Rattle.region_port.specs.declared.entry.DiskNode.{DiskNode}
-use Rattle.region_port.specs.Entries.{latest, content_of, node_kept, node_of, is_entry_at, path_of_entry, is_within, is_outside}
-use Rattle.region_port.specs.declared.entry.Entry.{Entry}
-use Rattle.region_port.proofs.Latest.{latest-append, latest-push, latest-filter, latest-passes, latest-skip, option_or-none}
+use Rattle.region_port.specs.declared.node.DiskNode.{DiskNode}
+use Rattle.region_port.specs.Entries.{Kept, content_of, node_at, node_kept}
+use Rattle.region_port.proofs.Sizes.{size_put_there}
 
--- an entry more is the node at its path
-pub content_of-push : (entries : List Entry) (entry : Entry) (path : List (List ℕ)) → content_of (entries ++ entry ∷ []) path ≡ cond (same_names entry.path path) (Some (node_of entry)) (content_of entries path)
-content_of-push entries entry path = ap (option_map node_of) (latest-push (is_entry_at path) entries entry) ∙ by (same_names entry.path path)
+-- an entry that was put is what its path has
+pub content_put : (place : List (List ℕ)) (kept : Option DiskNode) (entries : List Kept) (path : List (List ℕ))
+    → content_of (put place kept entries) path ≡ cond (same_names path place) (node_at (Some kept)) (content_of entries path)
+content_put place kept entries path = ap node_at (value_put path place kept entries) ∙ by (same_names path place)
   where
-    by : (b : Bool) → option_map node_of (cond b (Some entry) (latest (is_entry_at path) entries)) ≡ cond b (Some (node_of entry)) (content_of entries path)
+    by : (b : Bool) → node_at (cond b (Some kept) (value_at path entries)) ≡ cond b (node_at (Some kept)) (content_of entries path)
     by true = refl
     by false = refl
+
+-- what is left of a list by a test that paths alone decide
+pub content_filtered : (test : List (List ℕ) → Bool) (left : Kept → Bool) → ((entry : Kept) → left entry ≡ test entry.path) → (entries : List Kept) (path : List (List ℕ))
+    → content_of (filter left entries) path ≡ cond (test path) (content_of entries path) None
+content_filtered test left same entries path = by (test path) refl
+  where
+    here : (entry : Kept) → is_at path entry ≡ true → left entry ≡ test path
+    here entry at = same entry ∙ ap test (sym (same_names-eq path entry.path at))
+
+    off : (entry : Kept) → test path ≡ false → left entry ≡ true → is_at path entry ≡ false
+    off entry e passes = one (is_at path entry) refl
+      where
+        one : (b : Bool) → is_at path entry ≡ b → b ≡ false
+        one true at = absurd (true≢false (sym passes ∙ here entry at ∙ e))
+        one false at = refl
+
+    by : (b : Bool) → test path ≡ b → content_of (filter left entries) path ≡ cond b (content_of entries path) None
+    by true e = ap (λ o. node_at (option_map value_of o)) (find_kept (is_at path) left (λ entry at. here entry at ∙ e) entries)
+    by false e = ap (λ o. node_at (option_map value_of o)) (find_gone (is_at path) left (λ entry passes. off entry e passes) entries)
+
+-- below a path the entries at and below it have all that the whole list has there
+pub below_part : (place : List (List ℕ)) (entries : List Kept) → below place (content_of (filter (is_under place) entries)) ≡ below place (content_of entries)
+below_part place entries =
+    let each : (q : List (List ℕ)) → below place (content_of (filter (is_under place) entries)) q ≡ below place (content_of entries) q =
+    λ q. content_filtered (is_prefix place) (is_under place) (λ entry. refl) entries (place ++ q)
+    ∙ ap (λ b. cond b (content_of entries (place ++ q)) None) (prefix-append place q)
+    in λ i q. each q i
+
+-- a part that is cut out is missing
+pub content_cut : (place : List (List ℕ)) (entries : List Kept) → content_of (cut_at place None entries) ≡ without place (content_of entries)
+content_cut place entries =
+    let each : (q : List (List ℕ)) → content_of (cut_at place None entries) q ≡ without place (content_of entries) q =
+    λ q. ap node_at (value_cut place q None entries) ∙ by q (is_prefix place q) (same_names q place)
+    in λ i q. each q i
+  where
+    by : (q : List (List ℕ)) (b c : Bool) → node_at (cond b (cond c (Some None) None) (value_at q entries)) ≡ cond b None (content_of entries q)
+    by q true true = refl
+    by q true false = refl
+    by q false c = refl
+
+-- a part that is hung in stands in the place of what was there
+pub content_spliced : (place : List (List ℕ)) (part entries : List Kept) → content_of (spliced place part entries) ≡ replaced place (below place (content_of part)) (content_of entries)
+content_spliced place part entries =
+    let each : (q : List (List ℕ)) → content_of (spliced place part entries) q ≡ replaced place (below place (content_of part)) (content_of entries) q =
+    λ q. ap node_at (value_spliced place q part entries) ∙ by q (is_prefix place q) refl
+    in λ i q. each q i
+  where
+    by : (q : List (List ℕ)) (b : Bool) → is_prefix place q ≡ b
+        → node_at (cond b (value_at q part) (value_at q entries)) ≡ cond b (content_of part (place ++ drop (length place) q)) (content_of entries q)
+    by q true e = ap (content_of part) ((is_prefix-Decides place q).0 e)
+    by q false e = refl
 
 -- a put, as the part below a path sees it
-pub with_node-push : (place rel : List (List ℕ)) (entries : List Entry) (entry : Entry) → entry.path ≡ place ++ rel
-    → below place (content_of (entries ++ entry ∷ [])) ≡ with_node rel (node_of entry) (below place (content_of entries))
-with_node-push place rel entries entry e =
-    let each : (q : List (List ℕ)) → below place (content_of (entries ++ entry ∷ [])) q ≡ with_node rel (node_of entry) (below place (content_of entries)) q =
-    λ q. content_of-push entries entry (place ++ q)
-    ∙ ap (λ b. cond b (Some (node_of entry)) (content_of entries (place ++ q)))
-    (ap (λ p. same_names p (place ++ q)) e ∙ same_names-behind place rel q ∙ same_names-sym rel q)
+pub with_node_put : (place rel path : List (List ℕ)) (node : DiskNode) (entries : List Kept) → path ≡ place ++ rel
+    → below place (content_of (put path (Some node) entries)) ≡ with_node rel (node_kept node) (below place (content_of entries))
+with_node_put place rel path node entries e =
+    let each : (q : List (List ℕ)) → below place (content_of (put path (Some node) entries)) q ≡ with_node rel (node_kept node) (below place (content_of entries)) q =
+    λ q. content_put path (Some node) entries (place ++ q)
+    ∙ ap (λ b. cond b (Some (node_kept node)) (content_of entries (place ++ q))) (ap (same_names (place ++ q)) e ∙ same_names-behind place q rel)
     in λ i q. each q i
 
--- the entries at or below a path
-pub content_of-within : (place : List (List ℕ)) (entries : List Entry) (path : List (List ℕ)) → content_of (filter (is_within path_of_entry place) entries) path ≡ cond (is_prefix place path) (content_of entries path) None
-content_of-within place entries path =
-    ap (option_map node_of) (latest-filter (is_entry_at path) (is_within path_of_entry place) (is_prefix place path) (λ e h. ap (is_prefix place) ((same_names-Decides e.path path).0 h)) entries)
-    ∙ by (is_prefix place path)
-  where
-    by : (b : Bool) → option_map node_of (cond b (latest (is_entry_at path) entries) None) ≡ cond b (content_of entries path) None
-    by true = refl
-    by false = refl
-
--- below a path the entries at or below it have all that the whole list has there
-pub below-within : (place : List (List ℕ)) (entries : List Entry) → below place (content_of (filter (is_within path_of_entry place) entries)) ≡ below place (content_of entries)
-below-within place entries =
-    let each : (q : List (List ℕ)) → below place (content_of (filter (is_within path_of_entry place) entries)) q ≡ below place (content_of entries) q =
-    λ q. content_of-within place entries (place ++ q) ∙ ap (λ b. cond b (content_of entries (place ++ q)) None) (prefix-append place q)
+-- an append, as the part below a path sees it
+pub below_appended : (place rel path : List (List ℕ)) (more : List ℕ) (content : Part) → path ≡ place ++ rel
+    → below place (appended path more content) ≡ appended rel more (below place content)
+below_appended place rel path more content e =
+    let each : (q : List (List ℕ)) → below place (appended path more content) q ≡ appended rel more (below place content) q =
+    λ q. ap (λ p. cond (same_names (place ++ q) p) (option_map (with_more more) (content p)) (content (place ++ q))) e
+    ∙ ap (λ b. cond b (option_map (with_more more) (content (place ++ rel))) (content (place ++ q))) (same_names-behind place q rel)
     in λ i q. each q i
 
--- the other entries
-pub content_of-outside : (place : List (List ℕ)) (entries : List Entry) → content_of (filter (is_outside path_of_entry place) entries) ≡ without place (content_of entries)
-content_of-outside place entries =
-    let each : (q : List (List ℕ)) → content_of (filter (is_outside path_of_entry place) entries) q ≡ without place (content_of entries) q =
-    λ q. ap (option_map node_of) (latest-filter (is_entry_at q) (is_outside path_of_entry place) (not (is_prefix place q)) (λ e h. ap (λ p. not (is_prefix place p)) ((same_names-Decides e.path q).0 h)) entries)
-    ∙ by q (is_prefix place q)
-    in λ i q. each q i
-  where
-    by : (q : List (List ℕ)) (b : Bool) → option_map node_of (cond (not b) (latest (is_entry_at q) entries) None) ≡ cond b None (content_of entries q)
-    by q true = refl
-    by q false = refl
-
--- at a path two lists have what the second one has there, or else what the first one has
-pub content_of-append : (xs ys : List Entry) (path : List (List ℕ)) → content_of (xs ++ ys) path ≡ option_or (content_of ys path) (content_of xs path)
-content_of-append xs ys path = ap (option_map node_of) (latest-append (is_entry_at path) xs ys) ∙ mapped (latest (is_entry_at path) ys) (latest (is_entry_at path) xs)
-  where
-    mapped : (a b : Option Entry) → option_map node_of (option_or a b) ≡ option_or (option_map node_of a) (option_map node_of b)
-    mapped None b = refl
-    mapped (Some x) b = refl
-
--- a part put back where nothing is
-pub content_of-replaced : (place : List (List ℕ)) (others inner : List Entry) → list_all (is_within path_of_entry place) inner ≡ true
-    → ((q : List (List ℕ)) → is_prefix place q ≡ true → content_of others q ≡ None)
-    → content_of (others ++ inner) ≡ replaced place (below place (content_of inner)) (content_of others)
-content_of-replaced place others inner all free =
-    let each : (q : List (List ℕ)) → content_of (others ++ inner) q ≡ replaced place (below place (content_of inner)) (content_of others) q =
-    λ q. content_of-append others inner q ∙ by q (is_prefix place q) refl
-    in λ i q. each q i
-  where
-    by : (q : List (List ℕ)) (b : Bool) → is_prefix place q ≡ b → option_or (content_of inner q) (content_of others q) ≡ cond b (content_of inner (place ++ drop (length place) q)) (content_of others q)
-    by q true e = ap (option_or (content_of inner q)) (free q e) ∙ option_or-none (content_of inner q) ∙ ap (content_of inner) ((is_prefix-Decides place q).0 e)
-    by q false e =
-        let nothing : content_of inner q ≡ None =
-        ap (λ l. content_of l q) (sym (filter_all (is_within path_of_entry place) inner all)) ∙ content_of-within place inner q ∙ ap (λ b. cond b (content_of inner q) None) e
-        in ap (λ o. option_or o (content_of others q)) nothing
-
--- the part below a path, once the last entry at a rel made way for another node there, which stands behind all
-pub with_node-moved : (place rel : List (List ℕ)) (entries : List Entry) (i : ℕ) (entry : Entry) (node : DiskNode)
-    → i < length entries → slice_get entries i ≡ Some entry → latest (is_entry_at (place ++ rel)) entries ≡ slice_get entries i
-    → below place (content_of (remove entries i ++ record { path = entry.path; node = node } ∷ [])) ≡ with_node rel (node_kept node) (below place (content_of entries))
-with_node-moved place rel entries i entry node l at found =
-    let others = remove entries i in
-    let path : entry.path ≡ place ++ rel = same_names-eq entry.path (place ++ rel) (latest-passes (is_entry_at (place ++ rel)) entries entry (found ∙ at)) in
-    let all : entries ≡ take i entries ++ entry ∷ drop (suc i) entries =
-    sym (take-append-drop i entries) ∙ ap (λ ys. take i entries ++ ys) (drop-cons entries i entry l ∙ ap (λ x. x ∷ drop (suc i) entries) (get_or_from_slice_get entries i entry entry at)) in
-    let same : (q : List (List ℕ)) → same_names q rel ≡ false → content_of others (place ++ q) ≡ content_of entries (place ++ q) =
-    λ q h. ap (option_map node_of)
-    (sym (ap (latest (is_entry_at (place ++ q))) all
-    ∙ latest-skip (is_entry_at (place ++ q)) (take i entries) entry (drop (suc i) entries)
-    (ap (λ p. same_names p (place ++ q)) path ∙ same_names-behind place rel q ∙ same_names-sym rel q ∙ h))) in
-    let each : (q : List (List ℕ)) → with_node rel (node_kept node) (below place (content_of others)) q ≡ with_node rel (node_kept node) (below place (content_of entries)) q =
-    λ q. by q (same_names q rel) refl (same q) in
-    with_node-push place rel others (record { path = entry.path; node = node }) path ∙ (λ i q. each q i)
-  where
-    by : (q : List (List ℕ)) (b : Bool) → same_names q rel ≡ b → (same_names q rel ≡ false → content_of (remove entries i) (place ++ q) ≡ content_of entries (place ++ q))
-        → cond b (Some (node_kept node)) (content_of (remove entries i) (place ++ q)) ≡ cond b (Some (node_kept node)) (content_of entries (place ++ q))
-    by q true h same = refl
-    by q false h same = same h
-
--- the node that the last entry at a rel keeps
-pub found_node : (place rel : List (List ℕ)) (entries : List Entry) (i : ℕ) (entry : Entry) → slice_get entries i ≡ Some entry
-    → latest (is_entry_at (place ++ rel)) entries ≡ slice_get entries i → below place (content_of entries) rel ≡ Some (node_of entry)
-found_node place rel entries i entry at found = ap (option_map node_of) (found ∙ at)
-
--- a part with the node at a rel that it has there
-pub with_node-same : (rel : List (List ℕ)) (node : Node) (part : Part) → part rel ≡ Some node → with_node rel node part ≡ part
-with_node-same rel node part e =
-    let each : (q : List (List ℕ)) → with_node rel node part q ≡ part q = λ q. by q (same_names q rel) refl in
+-- an append where nothing is changes nothing
+pub appended_nothing : (path : List (List ℕ)) (more : List ℕ) (content : Part) → content path ≡ None → content ≡ appended path more content
+appended_nothing path more content e =
+    let each : (q : List (List ℕ)) → content q ≡ appended path more content q = λ q. by q (same_names q path) refl in
     λ i q. each q i
   where
-    by : (q : List (List ℕ)) (b : Bool) → same_names q rel ≡ b → cond b (Some node) (part q) ≡ part q
-    by q true h = sym (ap part (same_names-eq q rel h) ∙ e)
+    by : (q : List (List ℕ)) (b : Bool) → same_names q path ≡ b → content q ≡ cond b (option_map (with_more more) (content path)) (content q)
+    by q true h = ap content (same_names-eq q path h) ∙ e ∙ sym (ap (option_map (with_more more)) e)
     by q false h = refl
 
--- an append, as a put of the node that it makes
-pub appended-with : (rel : List (List ℕ)) (more : List ℕ) (node : Node) (part : Part) → part rel ≡ Some node → with_node rel (with_more more node) part ≡ appended rel more part
-appended-with rel more node part e =
-    let each : (q : List (List ℕ)) → with_node rel (with_more more node) part q ≡ appended rel more part q =
-    λ q. ap (λ o. cond (same_names q rel) o (part q)) (sym (ap (option_map (with_more more)) e)) in
-    λ i q. each q i
+-- ---- a node that is taken out, changed and put back
+
+-- what was taken out left its place
+pub place_kept : (path : List (List ℕ)) (old out : List Kept) → out ≡ put path None old → value_at path out ≡ Some None
+place_kept path old out lifted = ap (value_at path) lifted ∙ value_put path path None old ∙ ap (λ b. cond b (Some None) (value_at path old)) (same_names-refl path)
+
+module _ (path : List (List ℕ)) (kept changed : Option DiskNode) (old out now : List Kept)
+    (lifted : out ≡ put path None old) (laid : now ≡ put path changed out) where
+  -- then the node that comes back is what the path has
+  pub changed_at : (q : List (List ℕ)) → content_of now q ≡ cond (same_names q path) (node_at (Some changed)) (content_of old q)
+  changed_at q =
+      ap (λ l. content_of l q) laid ∙ content_put path changed out q
+      ∙ ap (λ l. cond (same_names q path) (node_at (Some changed)) (content_of l q)) lifted
+      ∙ ap (cond (same_names q path) (node_at (Some changed))) (content_put path None old q)
+      ∙ by (same_names q path)
+    where
+      by : (b : Bool) → cond b (node_at (Some changed)) (cond b None (content_of old q)) ≡ cond b (node_at (Some changed)) (content_of old q)
+      by true = refl
+      by false = refl
+
+  -- a node with more bytes is an append
+  pub changed_more : (more : List ℕ) → Some kept ≡ value_at path old → node_at (Some changed) ≡ option_map (with_more more) (node_at (Some kept)) → content_of now ≡ appended path more (content_of old)
+  changed_more more was is =
+      let each : (q : List (List ℕ)) → content_of now q ≡ appended path more (content_of old) q =
+      λ q. changed_at q ∙ ap (λ o. cond (same_names q path) o (content_of old q)) (is ∙ ap (λ o. option_map (with_more more) (node_at o)) was)
+      in λ i q. each q i
+
+  -- and the same node changes nothing
+  pub changed_same : Some kept ≡ value_at path old → node_at (Some changed) ≡ node_at (Some kept) → content_of now ≡ content_of old
+  changed_same was is =
+      let each : (q : List (List ℕ)) → content_of now q ≡ content_of old q = λ q. changed_at q ∙ by q (same_names q path) refl in
+      λ i q. each q i
+    where
+      by : (q : List (List ℕ)) (b : Bool) → same_names q path ≡ b → cond b (node_at (Some changed)) (content_of old q) ≡ content_of old q
+      by q true h = is ∙ ap node_at was ∙ ap (content_of old) (sym (same_names-eq q path h))
+      by q false h = refl
+
+  -- either leaves as many entries
+  pub changed_few : Some kept ≡ value_at path old → length now ≤ length old
+  changed_few was =
+      let first = size_put_there path None old kept was in
+      let second = size_put_there path changed out None (sym (place_kept path old out lifted)) in
+      omega (arith, first, second, ap length laid, ap length lifted)
 
 -- where a put of a file was done, the file may be appended to
 pub put_allows_append : (rel : List (List ℕ)) (bytes : List ℕ) (exec : Bool) (before now : Option Part) → now ≡ option_map (with_node rel (file bytes exec)) before → ForSome now (λ part. is_file (part rel) ≡ true)

@@ -1,8 +1,9 @@
 pub mod Content
 pub mod Crashed
-pub mod Latest
 pub mod Shown
+pub mod Sizes
 pub mod StrayLemmas
 pub mod Lists
 pub mod Loans
 pub mod Marks
+pub mod Walks

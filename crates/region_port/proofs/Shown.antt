@@ -1,18 +1,14 @@
 -- Lists of nodes, one entry more.
 use Rattle.mat_path.proofs.JoinLemmas.{joined-tail}
 use Rattle.mat_path.proofs.Elements.{contains_cases, contains_first, contains_more}
-use Rattle.mat_path.proofs.SameNames.{is_prefix-Decides, same_names-Decides, same_names-refl, same_names-sym}
+use Rattle.mat_path.proofs.SameNames.{is_prefix-Decides, same_names-Decides, same_names-eq, same_names-refl, same_names-sym}
 use Rattle.mat_tree.proofs.Ascending.{after_head}
-use Rattle.std.proofs.Common.{◌≡◌, ℕ, ◌+◌, ◌≤◌, Bool, true, false, ◌&&◌, cond, List, [], ◌∷◌, ◌++◌, length, drop, map, refl, ap, subst, sym, ◌∙◌, inl, inr, Contains, Less, is_eq, arith, append_assoc, length-append, Bor, take, get_or, ◌<◌}
+use Rattle.std.proofs.Common.{◌≡◌, ℕ, ◌≤◌, Bool, true, false, ◌&&◌, cond, List, [], ◌∷◌, ◌++◌, length, drop, map, refl, ap, subst, sym, ◌∙◌, inl, inr, Contains, Less, is_eq, arith, length-append, ◌<◌}
 use Rattle.std.specs.Prelude.{Option, Some, None, nat_le, Result, Ok, Err, IfOk}
-use Rattle.std.proofs.lemmas.List.{take_more}
 use Rattle.std.specs.List.{AllByRecursion, find, list_all}
-use Rattle.std.specs.Option.{option_map, option_or}
+use Rattle.std.specs.Option.{option_map, option_or, OnSome}
 use Rattle.std.proofs.lemmas.List.Folds.{list_all-append}
 use mathlib.Core.Bool.{true≢false}
-use Rattle.std.specs.declared.vec.Vec.{Vec}
-use Rattle.std.specs.declared.alloc.Global.{Global}
-use Rattle.std.proofs.lemmas.List.{append-nil}
 use Rattle.std.proofs.lemmas.Bool.{and_from, and_parts, le-leb, leb-true}
 use Rattle.std.proofs.lemmas.Option.{same_Some, none-some}
 use Rattle.std.specs.Cmp.{first_so, second_so}
@@ -25,15 +21,13 @@ use Rattle.mat_path.specs.Names.{is_rel, is_name, joined, is_prefix, same_names,
 use Rattle.mat_tree.specs.Parts.{below, file, folder, link, Node, Part}
 use Rattle.mat_tree.specs.Trees.{ascends, is_after, is_at, what_at, what_of}
 use Rattle.mat_tree.specs.declared.flat.What.{What}
-use Rattle.region_port.specs.declared.entry.Entry.{Entry}
-use Rattle.region_port.specs.Entries.{content_of, node_of}
+use Rattle.path_trie.specs.Entries.{is_at as is_entry_at, value_of}
+use Rattle.region_port.specs.declared.node.DiskNode.{DiskNode}
+use Rattle.region_port.specs.Entries.{Kept, content_of, node_at}
 use Rattle.region_port.specs.Listing.{HasMany, HasNodes, HasTold, is_plain, is_plain_form, IsInOrder, most_nodes, flat_from, flats_of, form_at, form_of, form_seen, is_seen_at, rel_seen, seen_from, seen_of, shown}
 use Rattle.region_port.specs.declared.listed.Form.{Form}
 use Rattle.region_port.specs.declared.listed.Seen.{Seen}
 use Rattle.std.proofs.lemmas.List.{length-map}
-use Rattle.region_port.proofs.Latest.{option_or-none}
-use Rattle.region_port.specs.Lists.{all_of}
-use Rattle.region_port.proofs.Content.{content_of-push, content_of-append}
 
 -- nothing is among nothing
 none_contained : {X : Type 0} (x : X) → Contains [] x → ⊥
@@ -84,26 +78,21 @@ below-none p q rel e = by (same_names q (p ++ rel)) refl
         absurd (none-some (drop (length p) q) (e ∙ ap (λ b. cond b (Some (drop (length p) q)) None) h))
     by false k = refl
 
--- an entry more
-pub shown-push : {V : Type 0} (show : Node → V) (path : List (List ℕ)) (entries : List Entry) (entry : Entry) (rel : List (List ℕ)) → shown show path (entries ++ entry ∷ []) rel ≡ cond (same_names entry.path (path ++ rel)) (Some (show (node_of entry))) (shown show path entries rel)
-shown-push show path entries entry rel = ap (option_map show) (content_of-push entries entry (path ++ rel)) ∙ by (same_names entry.path (path ++ rel))
+-- the next entry that is added, and those that are left, show what was left with it
+pub shown_next : {V : Type 0} (show : Node → V) (path p : List (List ℕ)) (kept : Option DiskNode) (left : List Kept) (rel : List (List ℕ)) (old : Option V) → content_of left p ≡ None
+    → option_or (shown show path left rel) (cond (same_names p (path ++ rel)) (option_or (option_map show (node_at (Some kept))) old) old)
+    ≡ option_or (shown show path (record { path = p; value = kept } ∷ left) rel) old
+shown_next {V} show path p kept left rel old none = by (same_names p (path ++ rel)) refl (same_names (path ++ rel) p) (same_names-sym p (path ++ rel))
   where
-    by : (b : Bool) → option_map show (cond b (Some (node_of entry)) (content_of entries (path ++ rel))) ≡ cond b (Some (show (node_of entry))) (shown show path entries rel)
-    by true = refl
-    by false = refl
-
--- more entries
-pub shown-append : {V : Type 0} (show : Node → V) (path : List (List ℕ)) (xs ys : List Entry) (rel : List (List ℕ)) → shown show path (xs ++ ys) rel ≡ option_or (shown show path ys rel) (shown show path xs rel)
-shown-append show path xs ys rel = ap (option_map show) (content_of-append xs ys (path ++ rel)) ∙ by (content_of ys (path ++ rel)) (content_of xs (path ++ rel))
-  where
-    by : (a b : Option Node) → option_map show (option_or a b) ≡ option_or (option_map show a) (option_map show b)
-    by None b = refl
-    by (Some x) b = refl
-
--- a segment more
-pub all_of-pushed : {X : Type 0} (segments : List (Bor (Vec X Global))) (segment : Bor (Vec X Global)) → all_of (map (λ s. s.now) (segments ++ segment ∷ [])) ≡ all_of (map (λ s. s.now) segments) ++ segment.now.items
-all_of-pushed [] segment = append-nil segment.now.items
-all_of-pushed (first ∷ segments) segment = ap (λ rest. first.now.items ++ rest) (all_of-pushed segments segment) ∙ sym (append_assoc first.now.items (all_of (map (λ s. s.now) segments)) segment.now.items)
+    by : (b : Bool) → same_names p (path ++ rel) ≡ b → (c : Bool) → same_names p (path ++ rel) ≡ c
+        → option_or (shown show path left rel) (cond (same_names p (path ++ rel)) (option_or (option_map show (node_at (Some kept))) old) old)
+        ≡ option_or (option_map show (node_at (option_map value_of (cond c (Some (record { path = p; value = kept })) (find (is_entry_at (path ++ rel)) left))))) old
+    by true e true f =
+        ap (λ b. option_or (shown show path left rel) (cond b (option_or (option_map show (node_at (Some kept))) old) old)) e
+        ∙ ap (λ o. option_or (option_map show o) (option_or (option_map show (node_at (Some kept))) old)) (ap (content_of left) (sym (same_names-eq p (path ++ rel) e)) ∙ none)
+    by true e false f = absurd (true≢false (sym e ∙ f))
+    by false e true f = absurd (true≢false (sym f ∙ e))
+    by false e false f = ap (λ b. option_or (shown show path left rel) (cond b (option_or (option_map show (node_at (Some kept))) old) old)) e
 
 -- what is found among nodes that were made of pairs is what the pairs have
 found_in : {V N : Type 0} (make : List (List ℕ) × V → N) (test : N → Bool) (view : N → V) (rel : List (List ℕ))
@@ -138,9 +127,9 @@ pub in_order-seen : (pairs : List (List (List ℕ) × Form)) → IsStrictlySorte
 in_order-seen pairs s = subst (IsStrictlySortedBy path_cmp) (sym (rels_of-seen pairs)) s
 
 -- a map that has what is shown of some entries has their nodes
-pub has_nodes-seen : (path : List (List ℕ)) (entries : List Entry) (pairs : List (List (List ℕ) × Form))
-    → ((rel : List (List ℕ)) → lookup (is_at_key (path_cmp rel)) pairs ≡ option_or (shown form_of path entries rel) None) → HasNodes (below path (content_of entries)) (seen_of pairs)
-has_nodes-seen path entries pairs has rel = sym (form_at-seen pairs rel ∙ has rel ∙ option_or-none (shown form_of path entries rel))
+pub has_nodes-seen : (path : List (List ℕ)) (entries : List Kept) (pairs : List (List (List ℕ) × Form))
+    → ((rel : List (List ℕ)) → lookup (is_at_key (path_cmp rel)) pairs ≡ shown form_of path entries rel) → HasNodes (below path (content_of entries)) (seen_of pairs)
+has_nodes-seen path entries pairs has rel = sym (form_at-seen pairs rel ∙ has rel)
 
 -- in a list in order a node is what is found at its rel
 form_at-own : (nodes : List Seen) → IsInOrder nodes → (node : Seen) → Contains nodes node → form_at nodes node.rel ≡ Some node.what
@@ -176,8 +165,8 @@ all_plain part nodes s has = all_pass is_plain nodes (λ node among. by node.wha
     by what (Some n) e = ap is_plain_form (sym (same_Some (form_of n) what e)) ∙ plain n
 
 -- so that list is what a region answers
-pub lists-seen : (path : List (List ℕ)) (entries : List Entry) (pairs : List (List (List ℕ) × Form)) (nodes : List Seen) → nodes ≡ seen_of pairs → IsStrictlySortedBy path_cmp (keys_of pairs)
-    → length pairs ≤ most_nodes → ((rel : List (List ℕ)) → lookup (is_at_key (path_cmp rel)) pairs ≡ option_or (shown form_of path entries rel) None)
+pub lists-seen : (path : List (List ℕ)) (entries : List Kept) (pairs : List (List (List ℕ) × Form)) (nodes : List Seen) → nodes ≡ seen_of pairs → IsStrictlySortedBy path_cmp (keys_of pairs)
+    → length pairs ≤ most_nodes → ((rel : List (List ℕ)) → lookup (is_at_key (path_cmp rel)) pairs ≡ shown form_of path entries rel)
     → IsInOrder nodes × (length nodes ≤ most_nodes) × HasTold (Some (below path (content_of entries))) nodes
 lists-seen path entries pairs nodes e s few has =
     subst (λ nodes. IsInOrder nodes × (length nodes ≤ most_nodes) × HasTold (Some (below path (content_of entries))) nodes) (sym e) (
@@ -187,8 +176,8 @@ lists-seen path entries pairs nodes e s few has =
     )
 
 -- a longer list is why it answers that there are too many
-pub many-seen : (path : List (List ℕ)) (entries : List Entry) (pairs : List (List (List ℕ) × Form)) → IsStrictlySortedBy path_cmp (keys_of pairs)
-    → most_nodes < length pairs → ((rel : List (List ℕ)) → lookup (is_at_key (path_cmp rel)) pairs ≡ option_or (shown form_of path entries rel) None)
+pub many-seen : (path : List (List ℕ)) (entries : List Kept) (pairs : List (List (List ℕ) × Form)) → IsStrictlySortedBy path_cmp (keys_of pairs)
+    → most_nodes < length pairs → ((rel : List (List ℕ)) → lookup (is_at_key (path_cmp rel)) pairs ≡ shown form_of path entries rel)
     → HasMany (Some (below path (content_of entries)))
 many-seen path entries pairs s many has = (seen_of pairs, in_order-seen pairs s, has_nodes-seen path entries pairs has, omega (arith, length-map pairs seen_from))
 
@@ -204,16 +193,20 @@ ascends-flats (pair ∷ next ∷ pairs) s =
     (after_head pair.0 (flat_from next) (flats_of pairs) (ap is_lt s.0.0) heads.0)
     rest
 
--- one more of a list of entries
-pub shown-more : {V : Type 0} (show : Node → V) (path : List (List ℕ)) (entries : List Entry) (i : ℕ) (entry : Entry) (rel : List (List ℕ)) (before : Option V) → i < length entries → entry ≡ get_or entries i entry
-    → cond (same_names entry.path (path ++ rel)) (Some (show (node_of entry))) (option_or (shown show path (take i entries) rel) before) ≡ option_or (shown show path (take (i + 1) entries) rel) before
-shown-more {V} show path entries i entry rel before l e =
-    by (same_names entry.path (path ++ rel)) (shown show path (take i entries) rel)
-    ∙ ap (λ s. option_or s before) (sym (ap (λ list. shown show path list rel) (take_more entries i entry l ∙ ap (λ x. take i entries ++ x ∷ []) (sym e)) ∙ shown-push show path (take i entries) entry rel))
-  where
-    by : (b : Bool) (s : Option V) → cond b (Some (show (node_of entry))) (option_or s before) ≡ option_or (cond b (Some (show (node_of entry))) s) before
-    by true s = refl
-    by false s = refl
+-- an answer, or else nothing, is the answer
+pub option_or-none : {X : Type 0} (a : Option X) → option_or a None ≡ a
+option_or-none None = refl
+option_or-none (Some x) = refl
+
+-- nothing is added either way
+pub cond_same : {X : Type 0} (b : Bool) (x : X) → x ≡ cond b x x
+cond_same true x = refl
+cond_same false x = refl
+
+-- what holds in any case holds of something
+pub on_some : {X : Type 0} (o : Option X) (P : Type 0) → P → OnSome o P
+on_some None P fact = tt
+on_some (Some x) P fact = fact
 
 -- what follows where an answer is Ok
 pub IfOk-then : {T E : Type 0} (r : Result T E) (P Q : T → Type 0) → IfOk r P → ((x : T) → P x → Q x) → IfOk r Q

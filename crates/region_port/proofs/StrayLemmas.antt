@@ -3,27 +3,27 @@ use Rattle.mat_path.proofs.CoveringLemmas.{apart_within, among_contains, covered
 use Rattle.mat_path.proofs.Elements.{each_fails}
 use Rattle.mat_path.proofs.Overlaps.{prefix-antisym}
 use Rattle.mat_path.proofs.PathLemmas.{before_apart, path_cmp-refl, path_cmp_equal, path_cmp_total, prefix-refl, prefix-trans, prefix_not_greater, prefix_split}
-use Rattle.mat_path.proofs.SameNames.{same_names-eq, same_names-refl}
+use Rattle.mat_path.proofs.SameNames.{same_names-eq, same_names-refl, same_names-sym}
 use Rattle.mat_path.specs.Covering.{covering}
 use Rattle.mat_path.specs.Names.{is_prefix, overlap, path_cmp, same_names}
 use Rattle.mat_path.specs.Order.{same_names_ties}
 use Rattle.mat_tree.specs.Parts.{Node, Part}
-use Rattle.std.proofs.Common.{◌≡◌, ℕ, ◌+◌, ◌-◌, ◌≤◌, ◌<◌, zero, suc, Bool, true, false, ◌&&◌, ◌||◌, not, cond, ◌⊎◌, inl, inr, List, [], ◌∷◌, ◌++◌, length, take, drop, get_or, Ordering, Equal, Less, refl, ap, sym, subst, ◌∙◌, Contains, arith, append_assoc}
+use Rattle.std.proofs.Common.{◌≡◌, ℕ, ◌+◌, ◌-◌, ◌≤◌, zero, suc, Bool, true, false, ◌&&◌, ◌||◌, not, cond, ◌⊎◌, inl, inr, List, [], ◌∷◌, ◌++◌, length, drop, Ordering, Equal, Less, refl, ap, sym, subst, ◌∙◌, Contains, arith, append_assoc}
 use Rattle.std.proofs.lemmas.Bool.{and_from, false_from_ne_true, not-true, or_cases, or_from, or_parts, or_right, true_from_ne_false}
-use Rattle.std.proofs.lemmas.List.{append-nil, take_more}
+use Rattle.std.proofs.lemmas.List.{append-nil}
 use Rattle.std.specs.BTreeMap.{is_at}
 use Rattle.std.proofs.lemmas.List.Folds.{list_any-append}
 use Rattle.std.specs.BTreeSet.{BTreeSet, contains}
 use Rattle.std.specs.Cmp.{first_so, second_so}
-use Rattle.std.specs.List.{AllByRecursion, list_any, slice_get}
+use Rattle.std.specs.List.{AllByRecursion, find, list_any, slice_get}
 use Rattle.std.specs.List.Sorted.{IsStrictlySortedBy}
-use Rattle.std.specs.Option.{is_some, option_or}
+use Rattle.std.specs.Option.{is_some, option_map}
 use Rattle.std.specs.Prelude.{Option, Some, None}
 use mathlib.Core.Bool.{true≢false}
 use Rattle.region_port.specs.Calls.{Paths}
-use Rattle.region_port.specs.Entries.{content_of, node_of}
-use Rattle.region_port.specs.declared.entry.Entry.{Entry}
-use Rattle.region_port.proofs.Content.{content_of-append, content_of-push}
+use Rattle.path_trie.specs.Entries.{is_at as is_entry_at, value_of}
+use Rattle.region_port.specs.declared.node.DiskNode.{DiskNode}
+use Rattle.region_port.specs.Entries.{Kept, content_of, node_at}
 use Rattle.region_port.specs.Strays.{AreFound, AreTopmost, Gathers, candidates, is_apart, is_below_last, is_below_some}
 
 -- ---- order
@@ -266,32 +266,24 @@ not_added known place path old near = by (same_names place path) refl
     by true h = sym (ap (λ b. b || old) (ap (is_apart known) (sym (same_names-eq place path h)) ∙ near))
     by false h = refl
 
--- one more of a list of entries
-pub candidates-more : (known : List (List (List ℕ))) (entries : List Entry) (i : ℕ) (entry : Entry) (path : List (List ℕ)) (old : Bool) → i < length entries → entry ≡ get_or entries i entry
-    → ((same_names entry.path path && is_apart known path) || (candidates known (content_of (take i entries)) path || old)) ≡ (candidates known (content_of (take (i + 1) entries)) path || old)
-candidates-more known entries i entry path old l e =
-    by (same_names entry.path path) (is_apart known path) (content_of (take i entries) path)
-    ∙ ap (λ o. (is_some o && is_apart known path) || old) (sym (ap (λ list. content_of list path) (take_more entries i entry l ∙ ap (λ x. take i entries ++ x ∷ []) (sym e)) ∙ content_of-push (take i entries) entry path))
+-- the next entry that is added, and those that are left, have the candidates that were left with it
+pub candidates_next : (known : List (List (List ℕ))) (p : List (List ℕ)) (kept : Option DiskNode) (left : List Kept) (path : List (List ℕ)) (old : Bool) → content_of left p ≡ None
+    → (candidates known (content_of left) path || ((is_some (node_at (Some kept)) && (same_names p path && is_apart known path)) || old))
+    ≡ (candidates known (content_of (record { path = p; value = kept } ∷ left)) path || old)
+candidates_next known p kept left path old none = by (same_names p path) refl (same_names path p) (same_names-sym p path)
   where
-    by : (s a : Bool) (o : Option Node) → ((s && a) || ((is_some o && a) || old)) ≡ ((is_some (cond s (Some (node_of entry)) o) && a) || old)
-    by true true o = refl
-    by true false None = refl
-    by true false (Some node) = refl
-    by false a o = refl
+    none_both : (b : Bool) → (b && false) ≡ false
+    none_both true = refl
+    none_both false = refl
 
--- one more segment
-pub candidates-append : (known : List (List (List ℕ))) (before segment : List Entry) (path : List (List ℕ))
-    → (candidates known (content_of segment) path || candidates known (content_of before) path) ≡ candidates known (content_of (before ++ segment)) path
-candidates-append known before segment path =
-    by (content_of segment path) (content_of before path) (is_apart known path)
-    ∙ ap (λ o. is_some o && is_apart known path) (sym (content_of-append before segment path))
-  where
-    by : (s b : Option Node) (a : Bool) → ((is_some s && a) || (is_some b && a)) ≡ (is_some (option_or s b) && a)
-    by None b a = refl
-    by (Some node) None true = refl
-    by (Some node) None false = refl
-    by (Some node) (Some other) true = refl
-    by (Some node) (Some other) false = refl
+    by : (b : Bool) → same_names p path ≡ b → (c : Bool) → same_names p path ≡ c
+        → (candidates known (content_of left) path || ((is_some (node_at (Some kept)) && (b && is_apart known path)) || old))
+        ≡ ((is_some (node_at (option_map value_of (cond c (Some (record { path = p; value = kept })) (find (is_entry_at path) left)))) && is_apart known path) || old)
+    by true e true f =
+        ap (λ (o : Option Node). (is_some o && is_apart known path) || ((is_some (node_at (Some kept)) && is_apart known path) || old)) (ap (content_of left) (sym (same_names-eq p path e)) ∙ none)
+    by true e false f = absurd (true≢false (sym e ∙ f))
+    by false e true f = absurd (true≢false (sym f ∙ e))
+    by false e false f = ap (λ b. candidates known (content_of left) path || (b || old)) (none_both (is_some (node_at (Some kept))))
 
 -- one path alone covers none twice
 pub one_is_apart : (p q : List (List ℕ)) → covering q (p ∷ []) ≤ 1

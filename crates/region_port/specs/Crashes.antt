@@ -1,13 +1,12 @@
 -- What a crash leaves of a disk in memory.
-use Rattle.std.specs.Prelude.{◌≡◌, ◌/◌, ℕ, Bool, true, false, not, if◌then◌else◌, List, length, take, Option, None}
+use Rattle.std.specs.Prelude.{◌≡◌, ◌/◌, ℕ, Bool, true, false, if◌then◌else◌, List, length, take, Option, None}
 use Rattle.std.specs.List.{list_any}
 use Rattle.std.specs.Option.{option_map}
 use Rattle.mat_path.specs.Names.{is_prefix}
 use Rattle.mat_tree.specs.Parts.{Node, Part, file, folder, link}
 use Rattle.region_port.specs.Calls.{Paths}
-use Rattle.region_port.specs.declared.entry.DiskNode.{DiskNode}
-use Rattle.region_port.specs.declared.entry.DiskNode.TheVariants as kept
-use Rattle.region_port.specs.declared.entry.Entry.{Entry}
+use Rattle.region_port.specs.declared.node.DiskNode.{DiskNode}
+use Rattle.region_port.specs.declared.node.DiskNode.TheVariants as kept
 use Rattle.region_port.specs.declared.crash.Rest.{Rest}
 use Rattle.region_port.specs.declared.crash.Rest.TheVariants as rest
 
@@ -44,14 +43,6 @@ torn_kept kept.Dir = kept.Dir
 torn_kept (kept.File bytes exec) = kept.File (take (length bytes / 2) bytes) exec
 torn_kept (kept.Link target) = kept.Link target
 
--- an entry, torn
-abbrev pub torn_entry : Entry → Entry
-torn_entry entry = record { path = entry.path; node = torn_kept entry.node }
-
--- an entry, torn where one of some paths is at or above it
-abbrev pub torn_where : List (List (List ℕ)) → Entry → Entry
-torn_where rough entry = if list_any (is_above entry.path) rough then torn_entry entry else entry
-
--- whether none of some paths is at or above an entry
-abbrev pub is_spared : List (List (List ℕ)) → Entry → Bool
-is_spared rough entry = not (list_any (is_above entry.path) rough)
+-- what is kept at a path, torn where one of some paths is at or above it
+abbrev pub torn_where : List (List (List ℕ)) → List (List ℕ) → Option DiskNode → Option DiskNode
+torn_where rough path was = if list_any (is_above path) rough then option_map torn_kept was else was

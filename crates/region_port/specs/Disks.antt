@@ -10,7 +10,7 @@ use Rattle.region_port.specs.declared.mem_disk.MemDisk.{MemDisk}
 
 -- its nodes, but for those of parts that are lent
 abbrev pub disk_content : MemDisk → Part
-disk_content disk = content_of (all_of disk.nodes.segments.items)
+disk_content disk = content_of disk.nodes
 
 -- its rough paths, but for those of parts that are lent
 abbrev pub disk_rough : MemDisk → Paths

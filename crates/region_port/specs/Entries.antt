@@ -1,14 +1,14 @@
--- A disk in memory, as contracts see it: a list of entries, each a path and the node there.
+-- A disk in memory, as contracts see it: a list of entries in order of path, each path once, with the node there.
 use Rattle.mat_io.specs.Causes.{counted, risen}
-use Rattle.std.specs.Prelude.{◌&&◌, ◌||◌, ℕ, Bool, false, not, if◌then◌else◌, List, [], ◌∷◌, Option, Some, None}
+use Rattle.std.specs.Prelude.{◌&&◌, ◌||◌, ℕ, Bool, true, false, not, if◌then◌else◌, List, Option, Some, None}
 use Rattle.std.specs.List.{list_any}
-use Rattle.std.specs.Option.{option_map, option_or}
 use Rattle.mat_path.specs.Names.{is_prefix, same_names}
 use Rattle.mat_tree.specs.Parts.{Part, Node, folder, file, link}
 use Rattle.region_port.specs.Calls.{Paths}
-use Rattle.region_port.specs.declared.entry.Entry.{Entry}
-use Rattle.region_port.specs.declared.entry.DiskNode.{DiskNode}
-use Rattle.region_port.specs.declared.entry.DiskNode.TheVariants as kept
+use Rattle.path_trie.specs.declared.entry.Entry.{Entry}
+use Rattle.path_trie.specs.Entries.{is_behind, is_next_under, is_under, value_at}
+use Rattle.region_port.specs.declared.node.DiskNode.{DiskNode}
+use Rattle.region_port.specs.declared.node.DiskNode.TheVariants as kept
 use Rattle.region_port.specs.declared.counts.Counts.{Counts}
 use Rattle.mat_io.specs.Watches.{Watch}
 
@@ -18,26 +18,19 @@ node_kept kept.Dir = folder
 node_kept (kept.File bytes exec) = file bytes exec
 node_kept (kept.Link target) = link target
 
--- the node of an entry
-abbrev pub node_of : Entry → Node
-node_of entry = node_kept entry.node
+-- a path and what is kept there: a node, or nothing where a part begins that is lent
+abbrev pub Kept : Type 0
+Kept = Entry (Option DiskNode)
 
--- the path of an entry
-abbrev pub path_of_entry : Entry → List (List ℕ)
-path_of_entry entry = entry.path
+-- the node that is kept at a path, if one is
+abbrev pub node_at : Option (Option DiskNode) → Option Node
+node_at None = None
+node_at (Some None) = None
+node_at (Some (Some node)) = Some (node_kept node)
 
--- whether an entry is at a path
-abbrev pub is_entry_at : List (List ℕ) → Entry → Bool
-is_entry_at path entry = same_names entry.path path
-
--- the last element that passes a test
-abbrev pub latest : {X : Type 0} → (X → Bool) → List X → Option X
-latest passes [] = None
-latest passes (x ∷ xs) = option_or (latest passes xs) (if passes x then Some x else None)
-
--- what a list of entries has at each path: the last entry there counts
-abbrev pub content_of : List Entry → Part
-content_of entries path = option_map node_of (latest (is_entry_at path) entries)
+-- what a list of entries has at each path
+abbrev pub content_of : List Kept → Part
+content_of entries path = node_at (value_at path entries)
 
 -- the paths of a list
 abbrev pub paths_of : List (List (List ℕ)) → Paths
@@ -54,6 +47,16 @@ is_within place path x = is_prefix path (place x)
 -- whether it is not
 abbrev pub is_outside : {X : Type 0} → (X → List (List ℕ)) → List (List ℕ) → X → Bool
 is_outside place path x = not (is_prefix path (place x))
+
+-- whether an entry is at or below a path, and comes behind another one, if one is given
+abbrev pub is_later_under : List (List ℕ) → Option (List (List ℕ)) → Kept → Bool
+is_later_under path None entry = is_under path entry
+is_later_under path (Some last) entry = is_next_under path last entry
+
+-- whether an entry comes behind a path, if one is given
+abbrev pub is_later : Option (List (List ℕ)) → Kept → Bool
+is_later None entry = true
+is_later (Some last) entry = is_behind last entry
 
 -- the counts of a device that nobody has called yet
 abbrev pub no_counts : Counts

@@ -7,8 +7,7 @@ use Rattle.mat_path.specs.Names.{path_cmp, same_names}
 use Rattle.mat_tree.specs.Parts.{Node, Part, below, file, folder, link}
 use Rattle.mat_tree.specs.declared.flat.Flat.{Flat}
 use Rattle.mat_tree.specs.declared.flat.What.{What}
-use Rattle.region_port.specs.Entries.{content_of}
-use Rattle.region_port.specs.declared.entry.Entry.{Entry}
+use Rattle.region_port.specs.Entries.{Kept, content_of}
 use Rattle.region_port.specs.declared.listed.Form.{Form}
 use Rattle.region_port.specs.declared.listed.Form.TheVariants as form
 use Rattle.region_port.specs.declared.listed.Listed.{Listed}
@@ -102,5 +101,5 @@ abbrev pub seen_of : List (List (List ℕ) × Form) → List Seen
 seen_of pairs = map seen_from pairs
 
 -- what some entries have at a rel below a path, as it is shown
-abbrev pub shown : {V : Type 0} → (Node → V) → List (List ℕ) → List Entry → List (List ℕ) → Option V
+abbrev pub shown : {V : Type 0} → (Node → V) → List (List ℕ) → List Kept → List (List ℕ) → Option V
 shown show path entries rel = option_map show (below path (content_of entries) rel)

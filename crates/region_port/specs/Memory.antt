@@ -9,7 +9,7 @@ use Rattle.region_port.specs.declared.mem_region.MemRegion.{MemRegion}
 
 -- its part
 abbrev pub part_of : MemRegion → Part
-part_of region = below region.place (content_of region.nodes.items)
+part_of region = below region.place (content_of region.nodes)
 
 -- its rough paths
 abbrev pub rough_of : MemRegion → Paths

@@ -1,16 +1,15 @@
-// What a crash makes of the entries of a disk in memory.
-ghost use Rattle.std.specs.Prelude.{◌≡◌, ◌++◌, ◌≤◌, ℕ, List, map, not, if◌then◌else◌};
-ghost use Rattle.std.specs.List.{filter, list_any};
-ghost use Rattle.std.specs.VecDeque.{deque_len, deque_capacity};
-ghost use Rattle.region_port.specs.Crashes.{is_above, is_spared, left_where, torn_entry, torn_kept, torn_where};
+// What a crash makes of the nodes of a disk in memory.
+ghost use Rattle.std.specs.Prelude.{◌≡◌, ◌≤◌, ℕ, List, None, if◌then◌else◌, length};
+ghost use Rattle.std.specs.List.{list_any};
+ghost use Rattle.std.specs.Option.{option_map};
+ghost use Rattle.region_port.specs.Crashes.{is_above, left_where, torn_kept, torn_where};
 ghost use Rattle.region_port.specs.Entries.{content_of};
 ghost use Rattle.region_port.specs.Lists.{all_of};
 
-use crate::entry::{DiskNode, Entry};
+use crate::node::DiskNode;
 use crate::segments::Segments;
 use mat_path::{Items, Path};
-use std::collections::VecDeque;
-use std::mem;
+use path_trie::{Edit, Trie};
 
 /// What a crash leaves of all that is at or below a rough path.
 #[derive(Clone, Copy, Debug, PartialEq, Eq)]
@@ -60,64 +59,61 @@ fn halved(node: DiskNode) -> DiskNode
     }
 }
 
-/// Tears an entry that is at or below a rough path.
-fn tear(entry: &mut Entry, rough: &Segments<Path>)
-    ensures { entry.new ≡ torn_where (all_of rough.now.segments.items) entry.old }
-{
-    if is_rough(rough, &entry.path) {
-        let node = mem::replace(&mut entry.node, DiskNode::Dir);
-        entry.node = halved(node);
+/// What is torn: the files at or below these rough paths.
+#[derive(Drop)]
+struct Tears {
+    rough: Segments<Path>,
+}
+
+impl Edit<Option<DiskNode>> for Tears {
+    ghost edited = { λ tears. torn_where (all_of tears.rough.segments.items) };
+
+    fn edit(&self, path: &Path, kept: Option<DiskNode>) -> Option<DiskNode> {
+        if is_rough(&self.rough, path) {
+            return halved_kept(kept);
+        }
+        kept
     }
 }
 
-/// Tears each of some entries once, where it is at or below a rough path.
-fn tear_each(entries: &mut [Entry], rough: &Segments<Path>)
-    ensures { entries.new ≡ map (torn_where (all_of rough.now.segments.items)) entries.old }
+/// What is kept, with the first half of the bytes of its file.
+fn halved_kept(kept: Option<DiskNode>) -> Option<DiskNode>
+    ensures { result ≡ option_map torn_kept kept }
 {
-    for entry in entries.iter_mut() {
-        tear(entry, rough);
+    match kept {
+        Some(node) => Some(halved(node)),
+        None => None,
     }
 }
 
-/// The same of the entries of a list.
-fn torn(mut entries: Vec<Entry>, rough: &Segments<Path>) -> Vec<Entry>
-    ensures { result.items ≡ map (torn_where (all_of rough.now.segments.items)) entries.items }
+/// Removes the nodes at and below some paths.
+fn clear_each(nodes: &mut Trie<Option<DiskNode>>, paths: &[Path])
+    ensures content { (path : List (List ℕ)) → content_of nodes.new path ≡ (if list_any (is_above path) paths.now then None else content_of nodes.old path) }
+    ensures few { length nodes.new ≤ length nodes.old }
 {
-    tear_each(entries.as_mut_slice(), rough);
-    entries
+    for path in paths {
+        nodes.clear_under(path);
+    }
 }
 
-/// The entries that are at or below no rough path.
-fn spared(mut entries: Vec<Entry>, rough: &Segments<Path>) -> Vec<Entry>
-    ensures { result.items ≡ filter (is_spared (all_of rough.now.segments.items)) entries.items }
+/// Removes the nodes at and below rough paths.
+fn clear_rough(nodes: &mut Trie<Option<DiskNode>>, rough: &Segments<Path>)
+    ensures content { (path : List (List ℕ)) → content_of nodes.new path ≡ (if list_any (is_above path) (all_of rough.now.segments.items) then None else content_of nodes.old path) }
+    ensures few { length nodes.new ≤ length nodes.old }
 {
-    entries.retain(|entry| !is_rough(rough, &entry.path));
-    entries
+    for segment in rough.segments.iter() {
+        clear_each(nodes, segment.as_slice());
+    }
 }
 
-/// What a crash leaves of some entries.
-fn left_of(entries: Vec<Entry>, rough: &Segments<Path>, rest: Rest) -> Vec<Entry>
-    ensures { (path : List (List ℕ)) → content_of result.items path ≡ left_where (list_any (is_above path) (all_of rough.now.segments.items)) rest (content_of entries.items path) }
+/// Leaves of the nodes of a disk what a crash leaves.
+pub(crate) fn crash_nodes(nodes: &mut Trie<Option<DiskNode>>, rough: Segments<Path>, rest: Rest)
+    ensures content { (path : List (List ℕ)) → content_of nodes.new path ≡ left_where (list_any (is_above path) (all_of rough.segments.items)) rest (content_of nodes.old path) }
+    ensures few { length nodes.new ≤ length nodes.old }
 {
     match rest {
-        Rest::Nothing => spared(entries, rough),
-        Rest::Whole => entries,
-        Rest::Torn => torn(entries, rough),
+        Rest::Nothing => clear_rough(nodes, &rough),
+        Rest::Whole => {}
+        Rest::Torn => nodes.edit(&Tears { rough }),
     }
-}
-
-/// Leaves of the entries of each segment what a crash leaves. It calls itself once for each segment, and there are no more of
-/// these than loans were out at the last `take`, and one.
-pub(crate) fn crash_all(segments: &mut VecDeque<Vec<Entry>>, rough: &Segments<Path>, rest: Rest)
-    requires { deque_len segments.old ≤ deque_capacity segments.old }
-    ensures content { (path : List (List ℕ)) → content_of (all_of segments.new.items) path ≡ left_where (list_any (is_above path) (all_of rough.now.segments.items)) rest (content_of (all_of segments.old.items) path) }
-    ensures len { deque_len segments.new ≡ deque_len segments.old }
-    ensures capacity { deque_capacity segments.new ≡ deque_capacity segments.old }
-{
-    let Some(segment) = segments.pop_front() else {
-        return;
-    };
-    let segment = left_of(segment, rough, rest);
-    crash_all(segments, rough, rest);
-    segments.push_front_reserved(segment);
 }

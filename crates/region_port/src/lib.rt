@@ -3,12 +3,13 @@
 
 mod counts;
 mod crash;
-mod entry;
 mod got;
 mod listed;
 mod listing;
 mod mem_disk;
 mod mem_region;
+mod node;
+mod nodes;
 mod pieces;
 mod port;
 mod segments;

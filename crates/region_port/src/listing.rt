@@ -1,19 +1,19 @@
 ghost use Rattle.std.specs.Prelude.{◌≡◌, ◌++◌, ℕ, List, true, false, None, Some, if◌then◌else◌, IfOk, OnOk};
-ghost use Rattle.std.specs.Option.{option_or};
+ghost use Rattle.std.specs.Option.{option_map, option_or};
 ghost use Rattle.std.specs.BTreeMap.{get, IsOrdered};
 ghost use Rattle.mat_path.specs.Names.{is_rel, path_cmp, same_names};
 ghost use Rattle.mat_tree.specs.Parts.{Node, below, declared_by};
 ghost use Rattle.mat_tree.specs.Trees.{ascends, what_at};
-ghost use Rattle.region_port.specs.Entries.{content_of, node_kept, node_of};
+ghost use Rattle.region_port.specs.Entries.{content_of, node_at, node_kept};
 ghost use Rattle.region_port.specs.Listing.{Lists, flats_of, form_of, list_failed, seen_of, shown};
-ghost use Rattle.region_port.specs.Lists.{all_of};
 
-use crate::entry::{DiskNode, Entry};
 use crate::listed::{Form, Listed, Seen};
-use crate::segments::Segments;
+use crate::node::DiskNode;
+use crate::nodes::next_under;
 use mat_digest::Digest;
 use mat_path::{Items, Memory, Name, Path, Rel};
 use mat_tree::{Flat, What};
+use path_trie::Trie;
 use std::alloc::Global;
 use std::collections::BTreeMap;
 
@@ -75,48 +75,53 @@ fn add_node<V: View>(
     Ok(())
 }
 
-/// Adds an entry where it is at or below the path.
-fn add_entry<V: View>(
+/// Adds a node where it is at or below the path.
+fn add_below<V: View>(
     alloc: Global,
     path: &Path,
-    entry: &Entry,
+    at: &Path,
+    node: &DiskNode,
     nodes: &mut BTreeMap<Rel, V>,
 ) -> Result<(), Memory>
-    ensures ok { OnOk result ((rel : List (List ℕ)) → get path_cmp nodes.new rel ≡ (if same_names entry.now.path (path.now ++ rel) then Some (V.show (node_of entry.now)) else get path_cmp nodes.old rel)) }
+    ensures ok { OnOk result ((rel : List (List ℕ)) → get path_cmp nodes.new rel ≡ (if same_names at.now (path.now ++ rel) then Some (V.show (node_kept node.now)) else get path_cmp nodes.old rel)) }
 {
-    let _whole = entry.path.names();
-    match path.below(&entry.path) {
-        Some(names) => add_node(alloc, names, &entry.node, nodes),
+    let _whole = at.names();
+    match path.below(at) {
+        Some(names) => add_node(alloc, names, node, nodes),
         None => Ok(()),
     }
 }
 
-/// Adds the entries of a segment in their order.
-fn add_segment<V: View>(
+/// Adds what is kept at a path, where that is at or below the path.
+fn add_kept<V: View>(
     alloc: Global,
     path: &Path,
-    segment: &[Entry],
+    at: &Path,
+    kept: &Option<DiskNode>,
     nodes: &mut BTreeMap<Rel, V>,
 ) -> Result<(), Memory>
-    ensures ok { OnOk result ((rel : List (List ℕ)) → get path_cmp nodes.new rel ≡ option_or (shown V.show path.now segment.now rel) (get path_cmp nodes.old rel)) }
+    ensures ok { OnOk result ((rel : List (List ℕ)) → get path_cmp nodes.new rel ≡ (if same_names at.now (path.now ++ rel) then option_or (option_map V.show (node_at (Some kept.now))) (get path_cmp nodes.old rel) else get path_cmp nodes.old rel)) }
 {
-    for entry in segment {
-        add_entry(alloc, path, entry, nodes)?;
+    match kept {
+        Some(node) => add_below(alloc, path, at, node, nodes),
+        None => Ok(()),
     }
-    Ok(())
 }
 
 /// The nodes at and below the path, by their rels.
 fn nodes_below<V: View>(
     alloc: Global,
     path: &Path,
-    entries: &Segments<Entry>,
+    entries: &Trie<Option<DiskNode>>,
 ) -> Result<BTreeMap<Rel, V>, Memory>
-    ensures ok { IfOk result (λ nodes. (rel : List (List ℕ)) → get path_cmp nodes rel ≡ shown V.show path.now (all_of entries.now.segments.items) rel) }
+    ensures ok { IfOk result (λ nodes. (rel : List (List ℕ)) → get path_cmp nodes rel ≡ shown V.show path.now entries.now rel) }
 {
+    entries.is_in_order();
     let mut nodes = BTreeMap::new(alloc);
-    for segment in entries.segments.iter() {
-        add_segment(alloc, path, segment.as_slice(), &mut nodes)?;
+    let mut last = None;
+    'entries: while let Some((at, kept)) = next_under(entries, path, last) {
+        add_kept(alloc, path, at, kept, &mut nodes)?;
+        last = Some(at);
     }
     Ok(nodes)
 }
@@ -138,10 +143,10 @@ fn flat_of(alloc: Global, map: BTreeMap<Rel, What>) -> Result<Vec<Flat>, Memory>
 pub(crate) fn listed(
     alloc: Global,
     path: &Path,
-    entries: &Segments<Entry>,
+    entries: &Trie<Option<DiskNode>>,
 ) -> Result<Vec<Flat>, Memory>
     ensures ascending { IfOk result (λ nodes. ascends nodes.items ≡ true) }
-    ensures ok { IfOk result (λ nodes. (rel : List (List ℕ)) → shown declared_by path.now (all_of entries.now.segments.items) rel ≡ what_at nodes.items rel) }
+    ensures ok { IfOk result (λ nodes. (rel : List (List ℕ)) → shown declared_by path.now entries.now rel ≡ what_at nodes.items rel) }
 {
     let nodes = nodes_below(alloc, path, entries)?;
     flat_of(alloc, nodes)
@@ -158,21 +163,12 @@ fn seen_in(alloc: Global, map: BTreeMap<Rel, Form>) -> Result<Vec<Seen>, Memory>
     Ok(nodes)
 }
 
-/// The forms of some entries at and below the path, by their rels.
-fn forms_below(alloc: Global, path: &Path, entries: &[Entry]) -> Result<BTreeMap<Rel, Form>, Memory>
-    ensures ok { IfOk result (λ forms. (rel : List (List ℕ)) → get path_cmp forms rel ≡ option_or (shown form_of path.now entries.now rel) None) }
-{
-    let mut forms = BTreeMap::new(alloc);
-    add_segment(alloc, path, entries, &mut forms)?;
-    Ok(forms)
-}
-
 /// What some entries have at and below the path.
-pub(crate) fn seen(alloc: Global, path: &Path, entries: &[Entry]) -> Listed
+pub(crate) fn seen(alloc: Global, path: &Path, entries: &Trie<Option<DiskNode>>) -> Listed
     ensures listed { Lists (Some (below path.now (content_of entries.now))) result }
     ensures answer { list_failed result ≡ false }
 {
-    let Ok(forms) = forms_below(alloc, path, entries) else {
+    let Ok(forms) = nodes_below(alloc, path, entries) else {
         return Listed::NoMemory;
     };
     if forms.len() > MOST_NODES {

@@ -1,6 +1,6 @@
 ghost use Rattle.mat_path.specs.Covering.{covering, is_other_path};
 ghost use Rattle.mat_tree.specs.Trees.{ascends};
-ghost use Rattle.std.specs.Prelude.{◌≡◌, IfOk, is_ok, if◌then◌else◌, ◌+◌, ◌≤◌, ◌<◌, ◌∷◌, ◌++◌, [], ℕ, List, true, false, not, nat_eq, None, Some};
+ghost use Rattle.std.specs.Prelude.{◌≡◌, IfOk, OnOk, is_ok, if◌then◌else◌, ◌+◌, ◌*◌, ◌^◌, ◌≤◌, ◌<◌, ◌∷◌, ◌++◌, [], ℕ, List, length, true, not, nat_eq, false, Some};
 ghost use Rattle.std.specs.List.{filter, list_any};
 ghost use Rattle.std.specs.Vec.{vec_len, vec_capacity};
 ghost use Rattle.std.specs.VecDeque.{deque_len, deque_capacity};
@@ -9,37 +9,45 @@ ghost use Rattle.mat_path.specs.Names.{is_prefix, overlap, same_names};
 ghost use Rattle.mat_tree.specs.Parts.{bare, below, without, HasTree};
 ghost use Rattle.region_port.specs.Calls.{nowhere, paths_below, paths_of_both, paths_outside, with_inner};
 ghost use Rattle.region_port.specs.Crashes.{Crashes};
-ghost use Rattle.region_port.specs.Entries.{content_of, entered, joined_counts, no_counts, paths_of, rough_paths};
-ghost use Rattle.region_port.specs.Lists.{all_of};
+ghost use Rattle.region_port.specs.Entries.{entered, joined_counts, no_counts, paths_of, rough_paths};
+ghost use Rattle.path_trie.specs.Entries.{is_under};
 ghost use Rattle.region_port.specs.Strays.{Finds, strays_failed};
 ghost use Rattle.mat_io.specs.Watches.{after_call, when_armed};
 ghost use Rattle.region_port.specs.Watches.{joined_watch, uncalled};
 
 use crate::counts::Counts;
-use crate::crash::{Rest, crash_all};
-use crate::entry::Entry;
+use crate::crash::{Rest, crash_nodes};
 use crate::listing::listed;
-use crate::mem_region::MemRegion;
+use crate::mem_region::{MOST_LENT, MemRegion};
+use crate::node::DiskNode;
+use crate::nodes::cut_part;
 use crate::port::Disk;
 use crate::segments::Segments;
 use crate::strays::{Strays, strays_of};
 use mat_io::Arm;
 use mat_path::{Items, Memory, Path};
 use mat_tree::Flat;
+use path_trie::Trie;
 use std::alloc::Global;
+use std::mem;
 
-/// A disk in memory. It has room for what it lent to come back, and keeps all nodes in plain lists: `take`, `nodes`, `strays` and
-/// `crash` go through all of them, `nodes` and `strays` also sort, and `give` moves none.
+/// How many nodes a disk has, and how many loans, when it lends one part more: with fewer it has room for all that comes back.
+const MOST_NODES: usize = 1 << 62;
+
+const MOST_LOANS: usize = 1 << 22;
+
+/// A disk in memory. It keeps its nodes in a trie: a part is cut out of it and hung in again, however much it has. In the place of
+/// what it lent an entry without a node stands.
 #[derive(Drop)]
 pub struct MemDisk {
-    pub(crate) nodes: Segments<Entry>,
+    pub(crate) nodes: Trie<Option<DiskNode>>,
     pub(crate) rough: Segments<Path>,
     pub(crate) loans: Vec<Path>,
     pub(crate) counts: Counts,
-    ghost node_seats: { deque_len nodes.segments + vec_len loans ≤ deque_capacity nodes.segments },
+    ghost room: { length nodes + 2 ^ 40 * vec_len loans ≤ 2 ^ 63 },
     ghost rough_seats: { deque_len rough.segments + vec_len loans ≤ deque_capacity rough.segments },
     ghost apart: { (path : List (List ℕ)) → covering path loans.items ≤ 1 },
-    ghost free: { (path : List (List ℕ)) → 1 ≤ covering path loans.items → content_of (all_of nodes.segments.items) path ≡ None },
+    ghost marked: { (path : List (List ℕ)) → list_any (same_names path) loans.items ≡ true → list_any (is_under path) nodes ≡ true },
 }
 
 impl MemDisk {
@@ -53,7 +61,7 @@ impl MemDisk {
         ensures counts { disk_counts result ≡ no_counts }
     {
         MemDisk {
-            nodes: Segments::new(alloc),
+            nodes: Trie::new(alloc),
             rough: Segments::new(alloc),
             loans: Vec::new(alloc),
             counts: Counts::new(),
@@ -85,8 +93,9 @@ impl MemDisk {
         ensures lent { disk_loans self.new ≡ disk_loans self.old }
         ensures counts { disk_counts self.new ≡ disk_counts self.old }
     {
-        crash_all(&mut self.nodes.segments, &self.rough, rest);
-        self.rough.clear();
+        let alloc = *self.loans.allocator();
+        let rough = mem::replace(&mut self.rough, Segments::new(alloc));
+        crash_nodes(&mut self.nodes, rough, rest);
     }
 }
 
@@ -125,10 +134,10 @@ impl Disk for MemDisk {
         let place = path.copy()?;
         let loan = path.copy()?;
         self.loans.reserve(1)?;
+        check_room(&self.nodes, self.loans.len(), path)?;
         let seats = self.loans.len() + 1;
-        let node_room = self.nodes.ready(seats)?;
         let rough_room = self.rough.ready(seats)?;
-        let nodes = self.nodes.take_out(path, node_room);
+        let nodes = cut_part(&mut self.nodes, path)?;
         let rough = self.rough.take_out(path, rough_room);
         self.loans.push_reserved(loan);
         Ok(MemRegion {
@@ -157,9 +166,9 @@ impl Disk for MemDisk {
             whole,
             counts,
         } = region;
+        self.nodes.hang(&place, nodes);
         self.loans.retain(|loan| place != *loan);
         self.counts.absorb(&counts);
-        self.nodes.give_back(nodes);
         self.rough.give_back(rough_given(place, rough, whole));
     }
 
@@ -224,4 +233,18 @@ fn rough_given(place: Path, mut rough: Vec<Path>, whole: bool) -> Vec<Path>
         return rough;
     }
     rough
+}
+
+/// Whether the part at and below a path may be lent beside so many others, so that there is room for all that comes back.
+fn check_room(nodes: &Trie<Option<DiskNode>>, loans: usize, path: &Path) -> Result<(), Memory>
+    ensures room { OnOk result (length nodes.now + 1 + 2 ^ 40 * (loans + 1) ≤ 2 ^ 63) }
+    ensures few { OnOk result (length (filter (is_under path.now) nodes.now) ≤ 2 ^ 40) }
+{
+    if nodes.len() >= MOST_NODES || loans >= MOST_LOANS {
+        return Err(Memory);
+    }
+    if nodes.count_under(path) > MOST_LENT {
+        return Err(Memory);
+    }
+    Ok(())
 }

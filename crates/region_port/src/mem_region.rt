@@ -1,5 +1,5 @@
-ghost use Rattle.std.specs.Prelude.{◌≡◌, ◌<◌, ◌++◌, ◌+◌, true, false, None, Some, IfOk, length, drop};
-ghost use Rattle.std.specs.List.{list_all, slice_get};
+ghost use Rattle.std.specs.Prelude.{◌≡◌, ◌<◌, ◌≤◌, ◌++◌, ◌^◌, true, false, Some, IfOk, length};
+ghost use Rattle.std.specs.List.{list_all};
 ghost use Rattle.std.specs.Option.{ForSome};
 ghost use Rattle.std.specs.Vec.{vec_len, vec_capacity};
 ghost use Rattle.mat_io.specs.Answers.{did_failed};
@@ -9,32 +9,36 @@ ghost use Rattle.mat_tree.specs.Parts.{file, folder, link};
 ghost use Rattle.region_port.specs.Calls.{Appends, IfNotDone, Puts, Roughens, Syncs, Wipes, is_file, wants_memory};
 ghost use Rattle.region_port.specs.Listing.{Lists, list_failed};
 ghost use Rattle.region_port.specs.Reads.{IsWithin, Reads, got_failed, needs_path};
-ghost use Rattle.region_port.specs.Entries.{entered, is_entry_at, is_within, latest, node_kept, path_of_entry};
+ghost use Rattle.region_port.specs.Entries.{entered, node_kept};
 ghost use Rattle.mat_io.specs.Watches.{after_call, when_armed};
 
 use crate::counts::Counts;
-use crate::entry::{DiskNode, Entry};
 use crate::got::Got;
 use crate::listed::Listed;
 use crate::listing::seen;
-use crate::pieces::{copied, file_at, grown, newest};
+use crate::node::DiskNode;
+use crate::nodes::put_node;
+use crate::pieces::{copied, file_at, grow_at};
 use crate::port::Region;
 use mat_io::{Arm, Did};
 use mat_path::{Items, Memory, Path, Rel, Target};
+use path_trie::Trie;
 use std::alloc::Global;
 
-/// A loan of a part of a disk in memory. It keeps all nodes in one list: a read looks for its file from the end of the list
-/// on, and listing the part sorts them.
+/// How many nodes a part has at most while it is lent; one more wants memory. So the disk has room for all that comes back.
+pub(crate) const MOST_LENT: usize = 1 << 40;
+
+/// A loan of a part of a disk in memory. It keeps its nodes by their whole paths, in a trie that the disk hangs in again.
 #[derive(Debug, Drop)]
 pub struct MemRegion {
     pub(crate) place: Path,
-    pub(crate) nodes: Vec<Entry>,
+    pub(crate) nodes: Trie<Option<DiskNode>>,
     /// The rough parts that came with the loan, with room for one path more.
     pub(crate) rough: Vec<Path>,
     /// Whether the whole part is rough.
     pub(crate) whole: bool,
     pub(crate) counts: Counts,
-    ghost nodes_within: { list_all (is_within path_of_entry place) nodes.items ≡ true },
+    ghost few: { length nodes ≤ 2 ^ 40 },
     ghost rough_within: { list_all (is_prefix place) rough.items ≡ true },
     ghost room: { vec_len rough < vec_capacity rough },
 }
@@ -71,7 +75,7 @@ impl Region for MemRegion {
         if !self.counts.enter() {
             return Did::Failed;
         }
-        self.nodes.clear();
+        self.nodes = Trie::new(*self.rough.allocator());
         self.whole = true;
         Did::Done
     }
@@ -91,7 +95,7 @@ impl Region for MemRegion {
         if !self.counts.enter() {
             return Did::Failed;
         }
-        match file_node(*self.nodes.allocator(), bytes, exec) {
+        match file_node(*self.rough.allocator(), bytes, exec) {
             Ok(node) => self.put(rel, node),
             Err(_) => Did::NoMemory,
         }
@@ -151,10 +155,14 @@ impl Region for MemRegion {
         if !self.counts.enter() {
             return Did::Failed;
         }
-        match newest(self.nodes.as_slice(), &self.place, rel) {
-            Some(at) => self.append_at(at, rel, bytes),
-            None => Did::NoMemory,
+        let Ok(path) = self.place.join(rel) else {
+            return Did::NoMemory;
+        };
+        if !grow_at(&mut self.nodes, &path, bytes) {
+            return Did::NoMemory;
         }
+        self.whole = true;
+        Did::Done
     }
 
     fn read_piece(&mut self, rel: &Rel, at: u64, most: u32) -> Got
@@ -173,8 +181,8 @@ impl Region for MemRegion {
         if !self.counts.enter() {
             return Got::Failed;
         }
-        match file_at(self.nodes.as_slice(), &self.place, rel) {
-            Some(bytes) => copied(*self.nodes.allocator(), bytes, at, most),
+        match file_at(&self.nodes, &self.place, rel) {
+            Some(bytes) => copied(*self.rough.allocator(), bytes, at, most),
             None => Got::Absent,
         }
     }
@@ -193,7 +201,7 @@ impl Region for MemRegion {
         if !self.counts.enter() {
             return Listed::Failed;
         }
-        seen(*self.nodes.allocator(), &self.place, self.nodes.as_slice())
+        seen(*self.rough.allocator(), &self.place, &self.nodes)
     }
 
     fn sync(&mut self) -> Did
@@ -236,37 +244,15 @@ impl MemRegion {
         let Ok(path) = self.place.join(rel) else {
             return Did::NoMemory;
         };
-        if self.nodes.reserve(1).is_err() {
+        if self.nodes.len() >= MOST_LENT {
             return Did::NoMemory;
         }
-        self.nodes.push_reserved(Entry { path, node });
-        self.whole = true;
-        Did::Done
-    }
-
-    /// Adds bytes at the end of the file of the last entry at the rel, which then is the last entry of all.
-    fn append_at(&mut self, at: usize, rel: &Rel, bytes: &[u8]) -> Did
-        requires within { at < length self.old.nodes.items }
-        requires found { latest (is_entry_at (region_place self.old ++ rel.now)) self.old.nodes.items ≡ slice_get self.old.nodes.items at }
-        requires last { latest (is_entry_at (region_place self.old ++ rel.now)) (drop (at + 1) self.old.nodes.items) ≡ None }
-        ensures place { region_place self.new ≡ region_place self.old }
-        ensures part { Appends rel.now bytes.now result (Some (part_of self.old)) (Some (part_of self.new)) }
-        ensures rough { Roughens (region_place self.old) result (rough_of self.old) (rough_of self.new) }
-        ensures counts { region_counts self.new ≡ region_counts self.old }
-        ensures answer { did_failed result ≡ false }
-        ensures same { IfNotDone result ((part_of self.new ≡ part_of self.old) × (rough_of self.new ≡ rough_of self.old)) }
-    {
-        let Entry { path, node } = self.nodes.remove(at);
-        match grown(node, bytes) {
-            Ok(node) => {
-                self.nodes.push_reserved(Entry { path, node });
+        match put_node(&mut self.nodes, &path, node) {
+            Ok(()) => {
                 self.whole = true;
                 Did::Done
             }
-            Err(node) => {
-                self.nodes.push_reserved(Entry { path, node });
-                Did::NoMemory
-            }
+            Err(_) => Did::NoMemory,
         }
     }
 }

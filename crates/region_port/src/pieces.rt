@@ -1,53 +1,44 @@
-// Files of a part: where they stand among its entries, pieces of them, and more of them.
-ghost use Rattle.std.specs.Prelude.{◌≡◌, ◌++◌, ◌+◌, ◌<◌, true, false, None, Some, IfOk, IfErr, IfSome, length, drop};
-ghost use Rattle.std.specs.List.{slice_get};
-ghost use Rattle.std.specs.Option.{option_and_then, option_map, OnSome};
+// Files of a part: pieces of them, and more of them.
+ghost use Rattle.std.specs.Prelude.{◌≡◌, ◌++◌, ◌≤◌, true, false, if◌then◌else◌, Some, IfOk, IfErr, length};
+ghost use Rattle.std.specs.Option.{option_map, OnSome};
 ghost use Rattle.mat_path.specs.Names.{is_path, same_names};
-ghost use Rattle.region_port.specs.Calls.{with_more};
-ghost use Rattle.region_port.specs.Entries.{content_of, is_entry_at, latest, node_kept};
+ghost use Rattle.region_port.specs.Calls.{appended, with_more};
+ghost use Rattle.region_port.specs.Entries.{content_of, node_at, node_kept};
 ghost use Rattle.region_port.specs.Reads.{IsCopy, file_bytes, got_failed, piece};
 
-use crate::entry::{DiskNode, Entry};
 use crate::got::Got;
+use crate::node::DiskNode;
+use crate::nodes::{lift, put_back};
 use mat_path::{Items, Path, Rel};
+use path_trie::Trie;
 use std::alloc::Global;
 
-/// Whether the entry is at the rel from a place.
-fn is_at(entry: &Entry, place: &Path, rel: &Rel) -> bool
-    ensures at { result ≡ is_entry_at (place.now ++ rel.now) entry.now }
-    ensures path { is_path entry.now.path ≡ true }
-{
-    let _path = entry.path.names();
-    match place.below(&entry.path) {
-        Some(names) => names == rel.names(),
-        None => false,
-    }
-}
-
-/// The index of the last entry at the rel from a place. Looks from the end on.
-pub(crate) fn newest(entries: &[Entry], place: &Path, rel: &Rel) -> Option<usize>
-    ensures found { latest (is_entry_at (place.now ++ rel.now)) entries.now ≡ option_and_then (slice_get entries.now) result }
-    ensures last { IfSome result (λ at. latest (is_entry_at (place.now ++ rel.now)) (drop (at + 1) entries.now) ≡ None) }
-    ensures within { IfSome result (λ at. at < length entries.now) }
-    ensures path { OnSome result (is_path (place.now ++ rel.now) ≡ true) }
-{
-    let mut at = entries.len();
-    'entries: while at > 0 {
-        at -= 1;
-        if is_at(&entries[at], place, rel) {
-            return Some(at);
-        }
-    }
-    None
-}
-
 /// The bytes of the file at the rel from a place.
-pub(crate) fn file_at<'a>(entries: &'a [Entry], place: &Path, rel: &Rel) -> Option<&'a [u8]>
-    ensures bytes { option_map (λ bytes. bytes.now) result ≡ file_bytes (content_of entries.entry.now (place.now ++ rel.now)) }
+pub(crate) fn file_at<'a>(
+    nodes: &'a Trie<Option<DiskNode>>,
+    place: &Path,
+    rel: &Rel,
+) -> Option<&'a [u8]>
+    ensures bytes { option_map (λ bytes. bytes.now) result ≡ file_bytes (content_of nodes.entry.now (place.now ++ rel.now)) }
     ensures path { OnSome result (is_path (place.now ++ rel.now) ≡ true) }
 {
-    let at = newest(entries, place, rel)?;
-    entries[at].node.bytes()
+    match nodes.entry_below(place, rel.names()) {
+        Some((path, kept)) => {
+            let _names = path.names();
+            bytes_kept(kept)
+        }
+        None => None,
+    }
+}
+
+/// The bytes of a file that is kept.
+fn bytes_kept(kept: &Option<DiskNode>) -> Option<&[u8]>
+    ensures { option_map (λ bytes. bytes.now) result ≡ file_bytes (node_at (Some kept.now)) }
+{
+    match kept {
+        Some(node) => node.bytes(),
+        None => None,
+    }
 }
 
 /// At most `most` bytes from the offset `at` on.
@@ -98,5 +89,32 @@ pub(crate) fn grown(node: DiskNode, more: &[u8]) -> Result<DiskNode, DiskNode>
         }
         DiskNode::Dir => Ok(DiskNode::Dir),
         DiskNode::Link(target) => Ok(DiskNode::Link(target)),
+    }
+}
+
+/// Adds bytes at the end of the file at the path, and answers whether there was memory for them; else nothing changes.
+pub(crate) fn grow_at(nodes: &mut Trie<Option<DiskNode>>, path: &Path, more: &[u8]) -> bool
+    ensures done { result ≡ true → content_of nodes.new ≡ appended path.now more.now (content_of nodes.old) }
+    ensures same { result ≡ false → content_of nodes.new ≡ content_of nodes.old }
+    ensures few { length nodes.new ≤ length nodes.old }
+{
+    let Some(kept) = lift(nodes, path) else {
+        return true;
+    };
+    let (kept, done) = more_kept(kept, more);
+    put_back(nodes, path, kept);
+    done
+}
+
+/// What is kept, with more bytes at the end of its file, and whether there was memory for them; else it is as it was.
+fn more_kept(kept: Option<DiskNode>, more: &[u8]) -> (Option<DiskNode>, bool)
+    ensures { node_at (Some result.0) ≡ (if result.1 then option_map (with_more more.now) (node_at (Some kept)) else node_at (Some kept)) }
+{
+    match kept {
+        Some(node) => match grown(node, more) {
+            Ok(node) => (Some(node), true),
+            Err(node) => (Some(node), false),
+        },
+        None => (None, true),
     }
 }

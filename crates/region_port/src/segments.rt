@@ -6,7 +6,6 @@ ghost use Rattle.mat_path.specs.Names.{is_prefix};
 ghost use Rattle.region_port.specs.Entries.{is_within, is_outside};
 ghost use Rattle.region_port.specs.Lists.{all_of, count_of};
 
-use crate::entry::Entry;
 use mat_path::{Memory, Path};
 use std::alloc::Global;
 use std::collections::VecDeque;
@@ -24,14 +23,6 @@ impl Placed for Path {
 
     fn place(&self) -> &Path {
         self
-    }
-}
-
-impl Placed for Entry {
-    ghost place = { λ entry. entry.path };
-
-    fn place(&self) -> &Path {
-        &self.path
     }
 }
 

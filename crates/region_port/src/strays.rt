@@ -5,13 +5,13 @@ ghost use Rattle.std.specs.List.{list_any};
 ghost use Rattle.std.specs.Option.{is_some};
 ghost use Rattle.mat_path.specs.Covering.{covering};
 ghost use Rattle.mat_path.specs.Names.{is_prefix, overlap, path_cmp, same_names};
-ghost use Rattle.region_port.specs.Entries.{content_of};
-ghost use Rattle.region_port.specs.Lists.{all_of};
+ghost use Rattle.region_port.specs.Entries.{content_of, node_at};
 ghost use Rattle.region_port.specs.Strays.{AreFound, Gathers, candidates, is_apart, is_below_last};
 
-use crate::entry::Entry;
-use crate::segments::Segments;
+use crate::node::DiskNode;
+use crate::nodes::next_of_all;
 use mat_path::{Items, Memory, Path};
+use path_trie::Trie;
 use std::alloc::Global;
 use std::collections::BTreeSet;
 
@@ -33,41 +33,45 @@ fn overlaps_any(path: &Path, known: &[Path]) -> bool
     known.iter().any(|one| path.overlaps(one))
 }
 
-/// Adds the path of an entry that overlaps no known path.
-fn add_candidate(known: &[Path], entry: &Entry, found: &mut BTreeSet<Path>) -> Result<(), Memory>
-    ensures { OnOk result ((path : List (List ℕ)) → contains path_cmp found.new path ≡ ((same_names entry.now.path path && is_apart known.now path) || contains path_cmp found.old path)) }
+/// Adds a path that overlaps no known path.
+fn add_apart(known: &[Path], at: &Path, found: &mut BTreeSet<Path>) -> Result<(), Memory>
+    ensures { OnOk result ((path : List (List ℕ)) → contains path_cmp found.new path ≡ ((same_names at.now path && is_apart known.now path) || contains path_cmp found.old path)) }
 {
-    if !overlaps_any(&entry.path, known) {
-        found.insert(entry.path.copy()?)?;
+    if !overlaps_any(at, known) {
+        found.insert(at.copy()?)?;
     }
     Ok(())
 }
 
-/// Adds those of the entries of a segment.
-fn add_candidates(
+/// Adds a path where a node is kept and that overlaps no known path.
+fn add_candidate(
     known: &[Path],
-    segment: &[Entry],
+    at: &Path,
+    kept: &Option<DiskNode>,
     found: &mut BTreeSet<Path>,
 ) -> Result<(), Memory>
-    ensures { OnOk result ((path : List (List ℕ)) → contains path_cmp found.new path ≡ (candidates known.now (content_of segment.now) path || contains path_cmp found.old path)) }
+    ensures { OnOk result ((path : List (List ℕ)) → contains path_cmp found.new path ≡ ((is_some (node_at (Some kept.now)) && (same_names at.now path && is_apart known.now path)) || contains path_cmp found.old path)) }
 {
-    for entry in segment {
-        add_candidate(known, entry, found)?;
+    match kept {
+        Some(_) => add_apart(known, at, found),
+        None => Ok(()),
     }
-    Ok(())
 }
 
 /// The paths of the nodes that overlap no known path.
 fn candidates_in(
     alloc: Global,
     known: &[Path],
-    entries: &Segments<Entry>,
+    entries: &Trie<Option<DiskNode>>,
 ) -> Result<BTreeSet<Path>, Memory>
-    ensures { IfOk result (λ found. (path : List (List ℕ)) → contains path_cmp found path ≡ candidates known.now (content_of (all_of entries.now.segments.items)) path) }
+    ensures { IfOk result (λ found. (path : List (List ℕ)) → contains path_cmp found path ≡ candidates known.now (content_of entries.now) path) }
 {
+    entries.is_in_order();
     let mut found = BTreeSet::new(alloc);
-    for segment in entries.segments.iter() {
-        add_candidates(known, segment.as_slice(), &mut found)?;
+    let mut last = None;
+    'entries: while let Some((at, kept)) = next_of_all(entries, last) {
+        add_candidate(known, at, kept, &mut found)?;
+        last = Some(at);
     }
     Ok(found)
 }
@@ -100,10 +104,10 @@ fn topmost(alloc: Global, mut paths: BTreeSet<Path>) -> Result<Vec<Path>, Memory
 pub(crate) fn strays_of(
     alloc: Global,
     known: &[Path],
-    entries: &Segments<Entry>,
+    entries: &Trie<Option<DiskNode>>,
 ) -> Result<Vec<Path>, Memory>
     requires { (path : List (List ℕ)) → covering path known.now ≤ 1 }
-    ensures { IfOk result (λ found. AreFound known.now (Some (content_of (all_of entries.now.segments.items))) found.items) }
+    ensures { IfOk result (λ found. AreFound known.now (Some (content_of entries.now)) found.items) }
 {
     let paths = candidates_in(alloc, known, entries)?;
     topmost(alloc, paths)

@@ -1,6 +1,5 @@
 use Rattle.std.proofs.Common.{◌∙◌}
 use Rattle.region_port.specs.Entries.{content_of}
-use Rattle.region_port.specs.Lists.{all_of}
 use Rattle.region_port.proofs.Shown.{IfOk-then}
 use Rattle.region_port.proofs.StrayLemmas.{contains_same, strays_found}
 use Rattle.region_port.proofs.strays.strays_of.Goals as goal
@@ -9,4 +8,4 @@ pub returns : goal.returns
 returns c =
     let paths = c.in_ok-paths.paths in
     IfOk-then c.topmost.result _ _ c.topmost.ensures (λ found gathered.
-    strays_found c.args.known.now (content_of (all_of c.args.entries.now.segments.items)) paths.keys found.items (λ q. contains_same paths q ∙ c.in_ok-paths.ensures q) c.requires gathered)
+    strays_found c.args.known.now (content_of c.args.entries.now) paths.keys found.items (λ q. contains_same paths q ∙ c.in_ok-paths.ensures q) c.requires gathered)

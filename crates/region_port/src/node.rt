@@ -1,7 +1,7 @@
 ghost use Rattle.std.specs.Prelude.{◌≡◌};
 ghost use Rattle.std.specs.Option.{option_map};
 
-use mat_path::{Items, Path, Target};
+use mat_path::{Items, Target};
 
 /// A node as a disk in memory keeps it.
 #[derive(Debug, Drop)]
@@ -28,11 +28,4 @@ impl DiskNode {
             _ => None,
         }
     }
-}
-
-/// A node and its whole path.
-#[derive(Debug, Drop)]
-pub struct Entry {
-    pub path: Path,
-    pub node: DiskNode,
 }

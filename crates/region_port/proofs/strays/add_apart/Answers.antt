@@ -3,7 +3,7 @@ use Rattle.std.specs.BTreeSet.{contains}
 use Rattle.mat_path.specs.Names.{path_cmp, same_names}
 use Rattle.mat_path.specs.Order.{same_names_ties}
 use Rattle.region_port.proofs.StrayLemmas.{added, not_added}
-use Rattle.region_port.proofs.strays.add_candidate.Goals as goal
+use Rattle.region_port.proofs.strays.add_apart.Goals as goal
 
 pub returns-in_ok-insert : goal.returns-in_ok-insert
 returns-in_ok-insert c path =
@@ -11,8 +11,8 @@ returns-in_ok-insert c path =
     c.in_ok-insert.ensures.updates.0 path
     ∙ ap (λ b. cond b true old) (sym (same_names_ties c.in_ok-copy.field-0 path))
     ∙ ap (λ k. cond (same_names k path) true old) c.in_ok-copy.ensures.ok
-    ∙ added c.args.known.now c.args.entry.now.path path old (ap not (sym c.overlaps_any.ensures ∙ c.if-not-overlaps_any.true))
+    ∙ added c.args.known.now c.args.at.now path old (ap not (sym c.overlaps_any.ensures ∙ c.if-not-overlaps_any.true))
 
 pub returns-else-not-overlaps_any : goal.returns-else-not-overlaps_any
 returns-else-not-overlaps_any c path =
-    not_added c.args.known.now c.args.entry.now.path path (contains path_cmp c.args.found.now path) (ap not (sym c.overlaps_any.ensures ∙ c.if-not-overlaps_any.false))
+    not_added c.args.known.now c.args.at.now path (contains path_cmp c.args.found.now path) (ap not (sym c.overlaps_any.ensures ∙ c.if-not-overlaps_any.false))
