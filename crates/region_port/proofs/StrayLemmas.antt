@@ -8,23 +8,26 @@ use Rattle.mat_path.specs.Covering.{covering}
 use Rattle.mat_path.specs.Names.{is_prefix, overlap, path_cmp, same_names}
 use Rattle.mat_path.specs.Order.{same_names_ties}
 use Rattle.mat_tree.specs.Parts.{Node, Part}
-use Rattle.std.proofs.Common.{◌≡◌, ℕ, ◌+◌, ◌-◌, ◌≤◌, zero, suc, Bool, true, false, ◌&&◌, ◌||◌, not, cond, ◌⊎◌, inl, inr, List, [], ◌∷◌, ◌++◌, length, drop, Ordering, Equal, Less, refl, ap, sym, subst, ◌∙◌, Contains, arith, append_assoc}
+use Rattle.std.proofs.Common.{◌≡◌, ℕ, ◌+◌, ◌-◌, ◌≤◌, ◌<◌, zero, suc, Bool, true, false, ◌&&◌, ◌||◌, not, cond, ◌⊎◌, inl, inr, List, [], ◌∷◌, ◌++◌, length, drop, take, get_or, Ordering, Equal, Less, Greater, refl, ap, sym, subst, ◌∙◌, Contains, arith, append_assoc}
 use Rattle.std.proofs.lemmas.Bool.{and_from, false_from_ne_true, not-true, or_cases, or_from, or_parts, or_right, true_from_ne_false}
 use Rattle.std.proofs.lemmas.List.{append-nil}
 use Rattle.std.specs.BTreeMap.{is_at}
 use Rattle.std.proofs.lemmas.List.Folds.{list_any-append}
 use Rattle.std.specs.BTreeSet.{BTreeSet, contains}
 use Rattle.std.specs.Cmp.{first_so, second_so}
-use Rattle.std.specs.List.{AllByRecursion, find, list_any, slice_get}
+use Rattle.std.specs.List.{AllByRecursion, filter, find, list_any, slice_get}
 use Rattle.std.specs.List.Sorted.{IsStrictlySortedBy}
 use Rattle.std.specs.Option.{is_some, option_map}
+use Rattle.std.specs.Ordering.{is_lt, ordering_reverse}
 use Rattle.std.specs.Prelude.{Option, Some, None}
 use mathlib.Core.Bool.{true≢false}
 use Rattle.region_port.specs.Calls.{Paths}
-use Rattle.path_trie.specs.Entries.{is_at as is_entry_at, value_of}
+use Rattle.path_trie.specs.declared.entry.Entry.{Entry}
+use Rattle.path_trie.specs.Entries.{is_at as is_entry_at, is_before, is_behind, overlaps, put, value_of}
+use Rattle.region_port.proofs.Crashed.{any_taken}
 use Rattle.region_port.specs.declared.node.DiskNode.{DiskNode}
 use Rattle.region_port.specs.Entries.{Kept, content_of, node_at}
-use Rattle.region_port.specs.Strays.{AreFound, AreTopmost, Gathers, candidates, is_apart, is_below_last, is_below_some}
+use Rattle.region_port.specs.Strays.{AreFound, AreTopmost, Gathers, candidates, is_apart, is_below_last, is_below_some, is_clear}
 
 -- ---- order
 
@@ -250,40 +253,116 @@ contains_same paths q = by paths.keys
     by [] = refl
     by (key ∷ keys) = ap (λ b. b || list_any (same_names q) keys) (same_names_ties q key) ∙ ap (λ b. is_at (path_cmp q) key || b) (by keys)
 
--- the path of an entry more, where it is apart
-pub added : (known : List (List (List ℕ))) (place path : List (List ℕ)) (old : Bool) → is_apart known place ≡ true → cond (same_names place path) true old ≡ ((same_names place path && is_apart known path) || old)
-added known place path old apart = by (same_names place path) refl
-  where
-    by : (b : Bool) → same_names place path ≡ b → cond b true old ≡ ((b && is_apart known path) || old)
-    by true h = sym (ap (λ b. b || old) (ap (is_apart known) (sym (same_names-eq place path h)) ∙ apart))
-    by false h = refl
+-- ---- with a map of the known paths
 
--- and none, where it isn't
-pub not_added : (known : List (List (List ℕ))) (place path : List (List ℕ)) (old : Bool) → is_apart known place ≡ false → old ≡ ((same_names place path && is_apart known path) || old)
-not_added known place path old near = by (same_names place path) refl
+-- whether one more of some paths passes a test that paths alone decide
+pub any_put : {V : Type 0} (test : List (List ℕ) → Bool) (passes : Entry V → Bool) → ((x : Entry V) → passes x ≡ test x.path) → (path : List (List ℕ)) (v : V) (xs : List (Entry V))
+    → list_any passes (put path v xs) ≡ (test path || list_any passes xs)
+any_put {V} test passes same path v xs =
+    list_any-append passes (filter (is_before path) xs) (record { path = path; value = v } ∷ filter (is_behind path) xs)
+    ∙ ap (λ b. list_any passes (filter (is_before path) xs) || (b || list_any passes (filter (is_behind path) xs))) (same (record { path = path; value = v }))
+    ∙ swap (list_any passes (filter (is_before path) xs)) (test path) (list_any passes (filter (is_behind path) xs))
+    ∙ by (test path) refl
   where
-    by : (b : Bool) → same_names place path ≡ b → old ≡ ((b && is_apart known path) || old)
-    by true h = sym (ap (λ b. b || old) (ap (is_apart known) (sym (same_names-eq place path h)) ∙ near))
-    by false h = refl
+    swap : (a t c : Bool) → (a || (t || c)) ≡ (t || (a || c))
+    swap true true c = refl
+    swap true false c = refl
+    swap false t c = refl
 
--- the next entry that is added, and those that are left, have the candidates that were left with it
-pub candidates_next : (known : List (List (List ℕ))) (p : List (List ℕ)) (kept : Option DiskNode) (left : List Kept) (path : List (List ℕ)) (old : Bool) → content_of left p ≡ None
-    → (candidates known (content_of left) path || ((is_some (node_at (Some kept)) && (same_names p path && is_apart known path)) || old))
-    ≡ (candidates known (content_of (record { path = p; value = kept } ∷ left)) path || old)
-candidates_next known p kept left path old none = by (same_names p path) refl (same_names path p) (same_names-sym p path)
+    push : (q : Entry V → Bool) (y : Entry V) (ys : List (Entry V)) → list_any passes (filter q (y ∷ ys)) ≡ ((q y && passes y) || list_any passes (filter q ys))
+    push q y ys = one (q y)
+      where
+        one : (b : Bool) → list_any passes (cond b (y ∷ filter q ys) (filter q ys)) ≡ ((b && passes y) || list_any passes (filter q ys))
+        one true = refl
+        one false = refl
+
+    -- an entry that is neither before nor behind the path stands at it
+    there : (y : Entry V) → test path ≡ false → is_before path y ≡ false → is_behind path y ≡ false → passes y ≡ false
+    there y none before behind = same y ∙ ap test (sym (level (path_cmp path y.path) refl)) ∙ none
+      where
+        level : (o : Ordering) → path_cmp path y.path ≡ o → path ≡ y.path
+        level Less e = absurd (true≢false (sym (ap is_lt e) ∙ behind))
+        level Equal e = path_cmp_equal path y.path e
+        level Greater e = absurd (true≢false (sym (ap is_lt (path_cmp_total.antisymm y.path path ∙ ap ordering_reverse e)) ∙ before))
+
+    sides : test path ≡ false → (ys : List (Entry V)) → (list_any passes (filter (is_before path) ys) || list_any passes (filter (is_behind path) ys)) ≡ list_any passes ys
+    sides none [] = refl
+    sides none (y ∷ ys) =
+        ap (λ b. b || list_any passes (filter (is_behind path) (y ∷ ys))) (push (is_before path) y ys)
+        ∙ ap (λ b. ((is_before path y && passes y) || list_any passes (filter (is_before path) ys)) || b) (push (is_behind path) y ys)
+        ∙ four (is_before path y) (is_behind path y) (passes y) (there y none) (list_any passes (filter (is_before path) ys)) (list_any passes (filter (is_behind path) ys)) (list_any passes ys) (sides none ys)
+      where
+        four : (a c p : Bool) → (a ≡ false → c ≡ false → p ≡ false) → (f g l : Bool) → (f || g) ≡ l → (((a && p) || f) || ((c && p) || g)) ≡ (p || l)
+        four a c true h true g l e = either a c h
+          where
+            either : (a c : Bool) → (a ≡ false → c ≡ false → ◌≡◌ {A = Bool} true false) → (((a && true) || true) || ((c && true) || g)) ≡ true
+            either true c h = refl
+            either false c h = refl
+        four true c true h false g l e = refl
+        four false true true h false g l e = refl
+        four false false true h false g l e = absurd (true≢false (h refl refl))
+        four true true false h f g l e = e
+        four true false false h f g l e = e
+        four false true false h f g l e = e
+        four false false false h f g l e = e
+
+    by : (b : Bool) → test path ≡ b → (b || (list_any passes (filter (is_before path) xs) || list_any passes (filter (is_behind path) xs))) ≡ (b || list_any passes xs)
+    by true e = refl
+    by false e = sides e xs
+
+-- a map with one path more is clear where it was and the path is apart
+pub clear_put : (map : List (Entry (Unit {0}))) (paths : List (List (List ℕ))) (i : ℕ) (p q : List (List ℕ)) (v : Unit {0}) → i < length paths → p ≡ get_or paths i p
+    → is_clear map q ≡ is_apart (take i paths) q → is_clear (put p v map) q ≡ is_apart (take (i + 1) paths) q
+clear_put map paths i p q v l at e =
+    ap not (any_put (overlap q) (overlaps q) (λ x. refl) p v map
+    ∙ or_turn (overlap q p) (list_any (overlaps q) map) (list_any (overlap q) (take i paths)) e
+    ∙ sym (any_taken (overlap q) paths i p l at))
   where
-    none_both : (b : Bool) → (b && false) ≡ false
-    none_both true = refl
-    none_both false = refl
+    or_turn : (a b c : Bool) → not b ≡ not c → (a || b) ≡ (c || a)
+    or_turn true true true e = refl
+    or_turn true true false e = absurd (true≢false (sym e))
+    or_turn true false true e = refl
+    or_turn true false false e = refl
+    or_turn false true true e = refl
+    or_turn false true false e = absurd (true≢false (sym e))
+    or_turn false false true e = absurd (true≢false e)
+    or_turn false false false e = refl
 
-    by : (b : Bool) → same_names p path ≡ b → (c : Bool) → same_names p path ≡ c
-        → (candidates known (content_of left) path || ((is_some (node_at (Some kept)) && (b && is_apart known path)) || old))
-        ≡ ((is_some (node_at (option_map value_of (cond c (Some (record { path = p; value = kept })) (find (is_entry_at path) left)))) && is_apart known path) || old)
-    by true e true f =
-        ap (λ (o : Option Node). (is_some o && is_apart known path) || ((is_some (node_at (Some kept)) && is_apart known path) || old)) (ap (content_of left) (sym (same_names-eq p path e)) ∙ none)
-    by true e false f = absurd (true≢false (sym e ∙ f))
-    by false e true f = absurd (true≢false (sym f ∙ e))
-    by false e false f = ap (λ b. candidates known (content_of left) path || (b || old)) (none_both (is_some (node_at (Some kept))))
+module _ (clear : List (List ℕ) → Bool) where
+  -- a path more, where it is clear
+  pub added : (place path : List (List ℕ)) (old : Bool) → clear place ≡ true → cond (same_names place path) true old ≡ ((same_names place path && clear path) || old)
+  added place path old apart = by (same_names place path) refl
+    where
+      by : (b : Bool) → same_names place path ≡ b → cond b true old ≡ ((b && clear path) || old)
+      by true h = sym (ap (λ b. b || old) (ap clear (sym (same_names-eq place path h)) ∙ apart))
+      by false h = refl
+
+  -- and none, where it isn't
+  pub not_added : (place path : List (List ℕ)) (old : Bool) → clear place ≡ false → old ≡ ((same_names place path && clear path) || old)
+  not_added place path old near = by (same_names place path) refl
+    where
+      by : (b : Bool) → same_names place path ≡ b → old ≡ ((b && clear path) || old)
+      by true h = sym (ap (λ b. b || old) (ap clear (sym (same_names-eq place path h)) ∙ near))
+      by false h = refl
+
+  -- the next entry that is added, and those that are left, have the candidates that were left with it
+  pub candidates_next : (p : List (List ℕ)) (kept : Option DiskNode) (left : List Kept) (path : List (List ℕ)) (old : Bool) → content_of left p ≡ None
+      → ((is_some (content_of left path) && clear path) || ((is_some (node_at (Some kept)) && (same_names p path && clear path)) || old))
+      ≡ ((is_some (content_of (record { path = p; value = kept } ∷ left) path) && clear path) || old)
+  candidates_next p kept left path old none = by (same_names p path) refl (same_names path p) (same_names-sym p path)
+    where
+      none_both : (b : Bool) → (b && false) ≡ false
+      none_both true = refl
+      none_both false = refl
+
+      by : (b : Bool) → same_names p path ≡ b → (c : Bool) → same_names p path ≡ c
+          → ((is_some (content_of left path) && clear path) || ((is_some (node_at (Some kept)) && (b && clear path)) || old))
+          ≡ ((is_some (node_at (option_map value_of (cond c (Some (record { path = p; value = kept })) (find (is_entry_at path) left)))) && clear path) || old)
+      by true e true f =
+          ap (λ (o : Option Node). (is_some o && clear path) || ((is_some (node_at (Some kept)) && clear path) || old)) (ap (content_of left) (sym (same_names-eq p path e)) ∙ none)
+      by true e false f = absurd (true≢false (sym e ∙ f))
+      by false e true f = absurd (true≢false (sym f ∙ e))
+      by false e false f = ap (λ b. (is_some (content_of left path) && clear path) || (b || old)) (none_both (is_some (node_at (Some kept))))
 
 -- one path alone covers none twice
 pub one_is_apart : (p q : List (List ℕ)) → covering q (p ∷ []) ≤ 1

@@ -6,6 +6,8 @@ use Rattle.std.specs.Option.{is_some}
 use Rattle.mat_path.specs.Covering.{covering}
 use Rattle.mat_path.specs.Names.{is_prefix, overlap, path_cmp, same_names}
 use Rattle.mat_tree.specs.Parts.{Part}
+use Rattle.path_trie.specs.declared.entry.Entry.{Entry}
+use Rattle.path_trie.specs.Entries.{overlaps}
 use Rattle.region_port.specs.Calls.{Paths}
 use Rattle.region_port.specs.declared.strays.Strays.{Strays}
 use Rattle.region_port.specs.declared.strays.Strays.TheVariants as strays
@@ -56,6 +58,10 @@ strays_failed strays.Failed = true
 strays_failed strays.NoMemory = false
 
 -- ---- how a disk in memory finds them
+
+-- whether a path overlaps none of a map
+abbrev pub is_clear : List (Entry (Unit {0})) → List (List ℕ) → Bool
+is_clear known path = not (list_any (overlaps path) known)
 
 -- found paths in strict order, none at or below another: each is one of some paths, and each of those is at or below one
 pub record Gathers (paths found : List (List (List ℕ))) : Type 0 where

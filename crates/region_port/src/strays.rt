@@ -1,12 +1,12 @@
 // How the strays of a disk in memory are found.
 ghost use Rattle.std.specs.Prelude.{◌≡◌, ◌&&◌, ◌||◌, ◌≤◌, ℕ, List, Some, IfOk, OnOk};
 ghost use Rattle.std.specs.BTreeSet.{contains};
-ghost use Rattle.std.specs.List.{list_any};
 ghost use Rattle.std.specs.Option.{is_some};
 ghost use Rattle.mat_path.specs.Covering.{covering};
-ghost use Rattle.mat_path.specs.Names.{is_prefix, overlap, path_cmp, same_names};
+ghost use Rattle.mat_path.specs.Names.{path_cmp, same_names};
+ghost use Rattle.path_trie.specs.Entries.{put};
 ghost use Rattle.region_port.specs.Entries.{content_of, node_at};
-ghost use Rattle.region_port.specs.Strays.{AreFound, Gathers, candidates, is_apart, is_below_last};
+ghost use Rattle.region_port.specs.Strays.{AreFound, Gathers, is_apart, is_below_last, is_clear};
 
 use crate::node::DiskNode;
 use crate::nodes::next_of_all;
@@ -26,18 +26,32 @@ pub enum Strays {
     NoMemory,
 }
 
-/// Whether a path overlaps one of some.
-fn overlaps_any(path: &Path, known: &[Path]) -> bool
-    ensures { result ≡ list_any (overlap path.now) known.now }
+/// Some paths as a map, in which what overlaps a path is found by its names.
+fn map_of(alloc: Global, paths: &[Path]) -> Result<Trie<()>, Memory>
+    ensures { IfOk result (λ map. (path : List (List ℕ)) → is_clear map path ≡ is_apart paths.now path) }
 {
-    known.iter().any(|one| path.overlaps(one))
+    let mut map = Trie::new(alloc);
+    for path in paths {
+        add_path(&mut map, path)?;
+    }
+    Ok(map)
+}
+
+/// Adds a path to a map.
+fn add_path(map: &mut Trie<()>, path: &Path) -> Result<(), Memory>
+    ensures { OnOk result (map.new ≡ put path.now tt map.old) }
+{
+    match map.insert(path, ()) {
+        Ok(_) => Ok(()),
+        Err(()) => Err(Memory),
+    }
 }
 
 /// Adds a path that overlaps no known path.
-fn add_apart(known: &[Path], at: &Path, found: &mut BTreeSet<Path>) -> Result<(), Memory>
-    ensures { OnOk result ((path : List (List ℕ)) → contains path_cmp found.new path ≡ ((same_names at.now path && is_apart known.now path) || contains path_cmp found.old path)) }
+fn add_apart(known: &Trie<()>, at: &Path, found: &mut BTreeSet<Path>) -> Result<(), Memory>
+    ensures { OnOk result ((path : List (List ℕ)) → contains path_cmp found.new path ≡ ((same_names at.now path && is_clear known.now path) || contains path_cmp found.old path)) }
 {
-    if !overlaps_any(at, known) {
+    if !known.overlaps(at) {
         found.insert(at.copy()?)?;
     }
     Ok(())
@@ -45,12 +59,12 @@ fn add_apart(known: &[Path], at: &Path, found: &mut BTreeSet<Path>) -> Result<()
 
 /// Adds a path where a node is kept and that overlaps no known path.
 fn add_candidate(
-    known: &[Path],
+    known: &Trie<()>,
     at: &Path,
     kept: &Option<DiskNode>,
     found: &mut BTreeSet<Path>,
 ) -> Result<(), Memory>
-    ensures { OnOk result ((path : List (List ℕ)) → contains path_cmp found.new path ≡ ((is_some (node_at (Some kept.now)) && (same_names at.now path && is_apart known.now path)) || contains path_cmp found.old path)) }
+    ensures { OnOk result ((path : List (List ℕ)) → contains path_cmp found.new path ≡ ((is_some (node_at (Some kept.now)) && (same_names at.now path && is_clear known.now path)) || contains path_cmp found.old path)) }
 {
     match kept {
         Some(_) => add_apart(known, at, found),
@@ -61,10 +75,10 @@ fn add_candidate(
 /// The paths of the nodes that overlap no known path.
 fn candidates_in(
     alloc: Global,
-    known: &[Path],
+    known: &Trie<()>,
     entries: &Trie<Option<DiskNode>>,
 ) -> Result<BTreeSet<Path>, Memory>
-    ensures { IfOk result (λ found. (path : List (List ℕ)) → contains path_cmp found path ≡ candidates known.now (content_of entries.now) path) }
+    ensures { IfOk result (λ found. (path : List (List ℕ)) → contains path_cmp found path ≡ (is_some (content_of entries.now path) && is_clear known.now path)) }
 {
     entries.is_in_order();
     let mut found = BTreeSet::new(alloc);
@@ -109,6 +123,7 @@ pub(crate) fn strays_of(
     requires { (path : List (List ℕ)) → covering path known.now ≤ 1 }
     ensures { IfOk result (λ found. AreFound known.now (Some (content_of entries.now)) found.items) }
 {
-    let paths = candidates_in(alloc, known, entries)?;
+    let map = map_of(alloc, known)?;
+    let paths = candidates_in(alloc, &map, entries)?;
     topmost(alloc, paths)
 }
