@@ -16,6 +16,7 @@ use Rattle.mat_model.specs.declared.entries.Event.TheVariants as event
 use Rattle.mat_model.specs.declared.limits.Limits.{Limits}
 use Rattle.mat_model.specs.declared.requests.Asked.{Asked}
 use Rattle.mat_model.specs.declared.requests.Asked.TheVariants as asked
+use Rattle.mat_model.specs.Books.{IsBook}
 use Rattle.mat_model.specs.Gate.{Served}
 use Rattle.mat_model.specs.History.{Point, after, is_store_fault, next_number, nodes_of, request_context}
 use Rattle.mat_model.specs.Kept.{may_fail}
@@ -23,13 +24,17 @@ use Rattle.mat_model.specs.Legal.{IsLegalEntry, IsNoteFrom, IsNumbered, IsRecord
 use Rattle.mat_model.specs.Requests.{at_moment, serve, serve_now}
 use Rattle.mat_model.specs.Room.{full_asked, full_served, row_paths}
 use Rattle.mat_model.specs.WorkState.{WorkState, work_asked}
+use Rattle.model_laws.specs.PointRules.{IsPoint}
 use Rattle.model_laws.specs.RoomRules.{IsRoomy}
 use Rattle.model_laws.specs.RowRules.{served_at}
+use Rattle.model_laws.specs.WorkRules.{IsWork}
 use Rattle.core_laws.specs.Stored.{leaves_kept}
 use Rattle.core_laws.proofs.StoreMoves.{entry_leaves}
 use Rattle.job_book.specs.Jobs.{jobs_of}
 use Rattle.kept_book.specs.Marks.{mark_of}
 use Rattle.mat_core.specs.Books.{AreWork, StandFor, book_in}
+use Rattle.mat_core.specs.Cores.{AreLimits}
+use Rattle.mat_core.specs.Replacing.{AreRuled}
 use Rattle.mat_core.specs.Served.{IsUnchanged, Serves, StandsStill, full_of, is_entered, is_quiet, is_want}
 use Rattle.mat_core.specs.declared.parts.Parts.{Parts}
 use Rattle.mat_core.proofs.ServeLemmas.{same_beside, same_parts}
@@ -234,7 +239,8 @@ work_moved first second work rows debris jobs are = record {
 }
 
 module _ {D K : Type 0} (by : By) (now : ℕ) (request : Asked) (said : Reply) (old raised served new : Parts D K) (point : Point)
-    (called : IsCalled by now request said old raised served new) (stands : StandFor old point) (entered : is_entered said ≡ true) where
+    (called : IsCalled by now request said old raised served new) (stands : StandFor old point) (ruled : IsPoint point)
+    (entered : is_entered said ≡ true) where
   abbrev pub the_entry : Entry
   the_entry = record { by = by; now = new.moment; event = event.Asked request; reply = said }
 
@@ -267,10 +273,15 @@ module _ {D K : Type 0} (by : By) (now : ℕ) (request : Asked) (said : Reply) (
   work_raised : AreWork raised point.work
   work_raised = work_moved old raised point.work called.rise.same.rows called.rise.same.debris called.rise.same.jobs stands.work
 
+  rules_given : IsWork (old.first + length old.history.items) (book_in raised).rows point.work
+  rules_given =
+      subst (λ n. IsWork n (book_in raised).rows point.work) (sym same_number)
+      (subst (λ r. IsWork (next_number point) r point.work) (sym (ap (λ (b : Book). b.rows) raised_book)) ruled.work)
+
   work_given : AreWork new (work_asked request said point.book.rows (book_in served).rows point.work)
   work_given = work_moved served new _ called.same.rows called.same.debris called.same.jobs
       (subst (λ r. AreWork served (work_asked request said r (book_in served).rows point.work)) (ap (λ (b : Book). b.rows) raised_book)
-      (called.serves.work entered point.work work_raised))
+      (called.serves.work entered point.work rules_given work_raised))
 
   marks_raised : raised.kept.marks ≡ map mark_of point.kept
   marks_raised = ap (λ k. k.marks) called.rise.same.kept ∙ stands.kept
@@ -367,3 +378,52 @@ full_told now request said old raised served point is serves stands roomy not_wa
     })
     (ap (λ (b : Book). b.first + length old.history.items) stands.book ∙ ap (λ h. point.book.first + length h) stands.history)
     (ap (λ b. b.limits) is.base) serves roomy not_want
+
+-- a book's rules don't ask for its moment
+pub rules_raised : (next moment : ℕ) (book : Book) → IsBook next book → IsBook next (record book { now = moment })
+rules_raised next moment book rules = record {
+  apart = rules.apart;
+  sums = rules.sums;
+  once = rules.once;
+  few = rules.few;
+  state = rules.state;
+  waits = rules.waits;
+  ordered = rules.ordered;
+  soft = rules.soft;
+  holds = rules.holds;
+  ascending = rules.ascending;
+  below = rules.below;
+  asking = rules.asking;
+  covered = rules.covered;
+}
+
+-- parts that stand for a point that keeps its rules do so at a raised moment
+pub ruled_raised : {D K : Type 0} (number now : ℕ) (old raised : Parts D K) → AreRuled number old → IsRaised now old raised → AreRuled number raised
+ruled_raised number now old raised ruled is = record {
+  point = record ruled.point { book = record ruled.point.book { now = max ruled.point.book.now now } };
+  stands = record {
+    book = is.book ∙ ap (λ (b : Book). record b { now = max b.now now }) ruled.stands.book;
+    work = work_moved old raised ruled.point.work is.same.rows is.same.debris is.same.jobs ruled.stands.work;
+    kept = ap (λ k. k.marks) is.same.kept ∙ ruled.stands.kept;
+    nodes = is.same.nodes ∙ ruled.stands.nodes;
+    paths = is.same.paths ∙ ruled.stands.paths;
+    history = is.history ∙ ruled.stands.history;
+  };
+  rules = record {
+    book = rules_raised (next_number ruled.point) (max ruled.point.book.now now) ruled.point.book ruled.rules.book;
+    work = ruled.rules.work;
+    placed = ruled.rules.placed;
+    kept = ruled.rules.kept;
+  };
+  roomy = subst (λ b. IsRoomy b.limits (record ruled.point { book = record ruled.point.book { now = max ruled.point.book.now now } })) (sym is.base) (record {
+    history = ruled.roomy.history;
+    nodes = ruled.roomy.nodes;
+    rows = ruled.roomy.rows;
+    held = ruled.roomy.held;
+    asked = ruled.roomy.asked;
+    holds = ruled.roomy.holds;
+    waiting = ruled.roomy.waiting;
+  });
+  limits = subst (λ b. AreLimits b.limits) (sym is.base) ruled.limits;
+  next = ruled.next;
+}

@@ -1,7 +1,6 @@
 -- What a core keeps through a request that calls no device.
 use Rattle.std.proofs.Common.{◌≡◌, ℕ, ◌+◌, ◌<◌, ◌^◌, true, false, nat_lt, cond, count_by, List, [], ◌∷◌, ◌++◌, None, refl, sym, ap, subst, ◌∙◌, length, le_refl, arith}
 use Rattle.mat_model.specs.declared.book.Book.{Book}
-use Rattle.mat_model.specs.Books.{IsBook}
 use Rattle.mat_model.specs.declared.entries.Entry.{Entry}
 use Rattle.mat_model.specs.declared.entries.Event.{Event}
 use Rattle.mat_model.specs.declared.entries.Event.TheVariants as event
@@ -27,8 +26,9 @@ use Rattle.core_laws.proofs.CountLemmas.{entry_counted}
 use Rattle.core_laws.proofs.PointMoves.{request_jobs}
 use Rattle.core_laws.proofs.RuleMoves.{asked_tied, request_disk}
 use Rattle.core_laws.proofs.StoreMoves.{entry_leaves}
-use Rattle.mat_core.specs.Books.{StandFor, book_in}
+use Rattle.mat_core.specs.Books.{StandFor}
 use Rattle.mat_core.specs.Cores.{AreDevices, IsCore, IsSeen, IsSound, Seen, ToldDisk, ToldStore, each_stamp, point_in, seen_of}
+use Rattle.mat_core.specs.Replacing.{AreRuled}
 use Rattle.mat_core.specs.Asks.{entry_of, request_asks}
 use Rattle.mat_core.specs.Rooms.{HasReserves, spent_in}
 use Rattle.mat_core.specs.Served.{AreSameDevices, StandsStill, is_entered, is_quiet}
@@ -103,13 +103,18 @@ core_bound told stored parts core =
     let spent : spent_in parts ≡ spent point = spent_same parts point core.stands in
     omega (arith, first, spent, roomy.history, core.seen.within, core.seen.limits.rows, core.seen.limits.history)
 
--- the book of a core's parts keeps the rules of a book
+-- a core's parts stand for a point that keeps its rules and is within the limits
 pub core_rules : {D K : Type 0} (told : D → ToldDisk) (stored : K → ToldStore) (parts : Parts D K) → IsCore told stored parts →
-    IsBook (parts.first + length parts.history.items) (book_in parts)
-core_rules told stored parts core =
-    subst (λ h. IsBook (parts.first + length h) (book_in parts)) (sym core.stands.history)
-    (subst (λ (b : Book). IsBook (b.first + length (point_in (seen_of parts)).history) b) (sym core.stands.book)
-    (seen_point told stored (seen_of parts) core.seen).book)
+    AreRuled (parts.first + length parts.history.items) parts
+core_rules told stored parts core = record {
+  point = point_in (seen_of parts);
+  stands = core.stands;
+  rules = seen_point told stored (seen_of parts) core.seen;
+  roomy = seen_roomy told stored (seen_of parts) core.seen;
+  limits = core.seen.limits;
+  next = sym (ap (λ (b : Book). b.first + length parts.history.items) core.stands.book
+      ∙ ap (λ h. (point_in (seen_of parts)).book.first + length h) core.stands.history);
+}
 
 -- a core keeps its rules once a request is entered
 pub core_entered : {D K : Type 0} (told : D → ToldDisk) (stored : K → ToldStore) (old new : Parts D K) (entry : Entry) (request : Asked) →
@@ -146,8 +151,8 @@ seen_is {D} {K} parts seen base history disk keeper =
 
 module _ {D K : Type 0} (told : D → ToldDisk) (stored : K → ToldStore) (old new : Parts D K) (by : By) (now : ℕ) (request : Request) (said : Reply)
     (core : IsCore told stored old) (quiet : is_quiet said ≡ true)
-    (stands : is_entered said ≡ true → (point : Point) → StandFor old point → StandFor new (after point (entry_of by new.moment request said)))
-    (legal : is_entered said ≡ true → (point : Point) → StandFor old point → IsRoomy old.base.limits point → MayAsk (request_asks request) →
+    (stands : is_entered said ≡ true → (point : Point) → StandFor old point → IsPoint point → StandFor new (after point (entry_of by new.moment request said)))
+    (legal : is_entered said ≡ true → (point : Point) → StandFor old point → IsPoint point → IsRoomy old.base.limits point → MayAsk (request_asks request) →
     IsNumbered point (entry_of by new.moment request said) → nat_lt now end_of_time ≡ true →
     IsLegalEntry old.base.limits point (entry_of by new.moment request said))
     (history : new.history.items ≡ cond (is_entered said) (old.history.items ++ entry_of by new.moment request said ∷ []) old.history.items)
@@ -160,14 +165,14 @@ module _ {D K : Type 0} (told : D → ToldDisk) (stored : K → ToldStore) (old 
       elim (is_entered said) as (λ b. is_entered said ≡ b → IsCore told stored new) [
         | true ↦ λ is.
             let point = point_in (seen_of old) in
-            let so = legal is point core.stands (seen_roomy told stored (seen_of old) core.seen) may
+            let so = legal is point core.stands (seen_point told stored (seen_of old) core.seen) (seen_roomy told stored (seen_of old) core.seen) may
             (numbered ∙ ap (count_by (is_of by.caller)) (sym (history-all (opened old.base.opening.value) old.history.items))) within in
             core_entered told stored old new (entry_of by new.moment request said) (request_asks request) core refl so
             (subst (λ r. leaves_kept r ≡ true) so.follows.reply (quiet_facts said quiet).kept) (quiet_facts said quiet).note
             (seen_is new (record (seen_of old) { history = old.history.items ++ entry_of by new.moment request said ∷ [] }) devices.base
             (history ∙ ap (λ b. cond b (old.history.items ++ entry_of by new.moment request said ∷ []) old.history.items) is)
             devices.disk devices.keeper)
-            (stands is point core.stands) reserves devices.lost
+            (stands is point core.stands (seen_point told stored (seen_of old) core.seen)) reserves devices.lost
         | false ↦ λ is. core_stays told stored old new core
             (seen_is new (seen_of old) devices.base
             (history ∙ ap (λ b. cond b (old.history.items ++ entry_of by new.moment request said ∷ []) old.history.items) is)

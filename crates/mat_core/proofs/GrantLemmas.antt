@@ -58,13 +58,13 @@ alone_used place moment rows (one ∷ kept) =
     at row = ap (λ p. same_names p one.path) (used-path place moment row)
 
 -- as many paths have a row, a kept row or both
-paths_used : (place : List (List ℕ)) (moment : ℕ) (rows : List Row) (kept : List KeptRow) →
+pub paths_used : (place : List (List ℕ)) (moment : ℕ) (rows : List Row) (kept : List KeptRow) →
     length (used place moment rows) + length (filter (is_alone (used place moment rows)) kept) ≡ length rows + length (filter (is_alone rows) kept)
 paths_used place moment rows kept =
     ap₂ (λ (n m : ℕ). n + m) (length-map rows (used_row place moment)) (ap length (alone_used place moment rows kept))
 
 -- as many bytes are held
-held_used : (place : List (List ℕ)) (moment : ℕ) (ways : List WayOf) (rows : List Row) → held_bytes ways (used place moment rows) ≡ held_bytes ways rows
+pub held_used : (place : List (List ℕ)) (moment : ℕ) (ways : List WayOf) (rows : List Row) → held_bytes ways (used place moment rows) ≡ held_bytes ways rows
 held_used place moment ways rows = sum_alike (held_for ways) (used_row place moment) same rows
   where
     same : (row : Row) → held_for ways (used_row place moment row) ≡ held_for ways row
@@ -73,14 +73,14 @@ held_used place moment ways rows = sum_alike (held_for ways) (used_row place mom
         [ true ↦ refl | false ↦ refl ]
 
 -- each row still has its stamp
-stamps_used : (place : List (List ℕ)) (moment : ℕ) (rows : List Row) (row : Row) → Contains rows row →
+pub stamps_used : (place : List (List ℕ)) (moment : ℕ) (rows : List Row) (row : Row) → Contains rows row →
     list_any (has_stamp row.stamp) (used place moment rows) ≡ true
 stamps_used place moment rows row among =
     has_one (used place moment rows) row (used_row place moment row) (contains_map (used_row place moment) rows row among)
     (used-stamp place moment row)
 
 -- and what is kept beside it
-stock_used : (place : List (List ℕ)) (moment : ℕ) (work : WorkState) (stock : Stock) → IsStock work stock → IsStock work (used_stock place moment stock)
+pub stock_used : (place : List (List ℕ)) (moment : ℕ) (work : WorkState) (stock : Stock) → IsStock work stock → IsStock work (used_stock place moment stock)
 stock_used place moment work stock is =
     elim (stock_at place stock) as (λ b. IsStock work (cond b (with_use moment stock) stock))
     [ true ↦ record { way = is.way; mark = is.mark } | false ↦ is ]
@@ -240,7 +240,7 @@ grant_serves {D} {K} number command path place asks request said old new facts s
   beside = is.beside;
   unchanged = λ out. absurd (both_ways (is_entered said) out facts.entered);
   served = λ _ context. ap (λ b. record { reply = said; book = b }) is.book ∙ sym (served context);
-  work = λ _ work are. subst (AreWork new) (sym (stays work)) (moved work are);
+  work = λ _ work rules are. subst (AreWork new) (sym (stays work)) (moved work are);
   kept = ap (λ k. k.marks) is.kept;
   reserves = beside_reserves old new is.debris is.jobs is.kept;
   nodes = λ _. is.nodes ∙ omega (arith, facts.nodes (book_in old));

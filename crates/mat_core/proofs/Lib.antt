@@ -1,11 +1,15 @@
 pub mod BegunLemmas
 pub mod CallLemmas
 pub mod CoreLemmas
+pub mod DeclareLemmas
 pub mod EnterLemmas
 pub mod EventLemmas
+pub mod FallLemmas
 pub mod GrantLemmas
 pub mod LeaveLemmas
+pub mod LosingLemmas
 pub mod OpeningLemmas
+pub mod ReplaceLemmas
 pub mod ReserveLemmas
 pub mod ServeLemmas
 pub mod StartLemmas

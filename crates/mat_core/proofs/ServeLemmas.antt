@@ -80,14 +80,14 @@ leaves_facts reply.Stale is = no is
 abbrev work_with : Bool → Bool → List Row → List WayOf → WorkState → WorkState
 work_with all cleaning removed ways work = record (without_removed cleaning removed (cond (all && cleaning) (condemned_all work) work)) { ways = ways }
 
--- a request after which each row still has its stamp, and which declares nothing, leaves the work state
-pub work_stays : (request : Asked) (said : Reply) (rows left : List Row) (work : WorkState) →
+-- a request after which each row still has its stamp leaves the work state but for its ways
+pub work_ways : (request : Asked) (said : Reply) (rows left : List Row) (work : WorkState) (ways : List WayOf) →
     ((row : Row) → Contains rows row → list_any (has_stamp row.stamp) left ≡ true) → is_cleaning said ≡ false →
-    ways_after request said rows work.ways ≡ work.ways → work_asked request said rows left work ≡ work
-work_stays request said rows left work stamps cleaning ways =
+    ways_after request said rows work.ways ≡ ways → work_asked request said rows left work ≡ record work { ways = ways }
+work_ways request said rows left work ways stamps cleaning then_ways =
     ap (λ b. work_with (cleans_all request) b (removed_rows rows left) (ways_after request said rows work.ways) work) cleaning
     ∙ ap (λ r. work_with (cleans_all request) false r (ways_after request said rows work.ways) work) (none_removed rows left stamps)
-    ∙ ap (λ w. work_with (cleans_all request) false [] w work) ways
+    ∙ ap (λ w. work_with (cleans_all request) false [] w work) then_ways
     ∙ idle (cleans_all request)
   where
     all_kept : (paths : List (List (List ℕ))) → list_all (is_kept_dirty []) paths ≡ true
@@ -97,9 +97,15 @@ work_stays request said rows left work stamps cleaning ways =
     dirty : filter (is_kept_dirty []) work.dirty ≡ work.dirty
     dirty = filter_all (is_kept_dirty []) work.dirty (all_kept work.dirty)
 
-    idle : (all : Bool) → work_with all false [] work.ways work ≡ work
-    idle true = ap (λ paths. record work { dirty = paths }) dirty
-    idle false = ap (λ paths. record work { dirty = paths }) dirty
+    idle : (all : Bool) → work_with all false [] ways work ≡ record work { ways = ways }
+    idle true = ap (λ paths. record work { dirty = paths; ways = ways }) dirty
+    idle false = ap (λ paths. record work { dirty = paths; ways = ways }) dirty
+
+-- and one that declares nothing leaves all of it
+pub work_stays : (request : Asked) (said : Reply) (rows left : List Row) (work : WorkState) →
+    ((row : Row) → Contains rows row → list_any (has_stamp row.stamp) left ≡ true) → is_cleaning said ≡ false →
+    ways_after request said rows work.ways ≡ work.ways → work_asked request said rows left work ≡ work
+work_stays request said rows left work stamps cleaning ways = work_ways request said rows left work work.ways stamps cleaning ways
 
 -- rows have their own stamps
 pub own_stamps : (rows : List Row) (row : Row) → Contains rows row → list_any (has_stamp row.stamp) rows ≡ true
@@ -252,7 +258,7 @@ refusal_serves {D} {K} number entries request said old leaves wants none served 
         beside = same_beside old;
         unchanged = λ _. same_parts old;
         served = λ _ context. sym (served context);
-        work = λ _ work are.
+        work = λ _ work rules are.
             subst (AreWork old)
             (sym (work_stays request said (book_in old).rows (book_in old).rows work (own_stamps (book_in old).rows) facts.cleaning
             (facts.ways request (book_in old).rows work.ways))) are;
@@ -322,7 +328,7 @@ book_serves number request said old new quiet entered full waits cleaning ways n
   beside = beside.beside;
   unchanged = λ out. absurd (both_ways (is_entered said) out entered);
   served = λ _ context. served context;
-  work = λ _ work are. subst (AreWork new) (sym (stays work)) (moved work are);
+  work = λ _ work rules are. subst (AreWork new) (sym (stays work)) (moved work are);
   kept = ap (λ k. k.marks) beside.kept;
   reserves = beside_reserves old new beside.debris beside.jobs beside.kept;
   nodes = λ _. beside.nodes ∙ omega (arith, none (book_in old));

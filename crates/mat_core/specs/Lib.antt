@@ -3,9 +3,13 @@ pub mod Books
 pub mod Cores
 pub mod Served
 pub mod Asks
+pub mod Declaring
 pub mod Enters
+pub mod Falling
 pub mod Grants
+pub mod Losing
 pub mod Opened
 pub mod Rooms
 pub mod Polls
 pub mod Events
+pub mod Replacing

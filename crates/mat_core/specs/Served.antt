@@ -11,6 +11,7 @@ use Rattle.mat_model.specs.Requests.{RequestContext, serve_now}
 use Rattle.mat_model.specs.Room.{full_served, row_paths}
 use Rattle.mat_model.specs.WorkState.{WorkState, work_asked}
 use Rattle.model_laws.specs.RoomRules.{IsRoomy}
+use Rattle.model_laws.specs.WorkRules.{IsWork}
 use Rattle.kept_book.specs.Marks.{mark_of}
 use Rattle.mat_core.specs.Books.{AreWork, StandFor, book_in}
 use Rattle.mat_core.specs.Rooms.{KeepsReserves}
@@ -89,14 +90,15 @@ pub record IsUnchanged {D K : Type 0} (old new : Parts D K) : Type 0 where
   pub paths : new.paths ≡ old.paths
 
 -- a request was answered so, under a number, by some parts that became others: where the reply is entered, it, the book and the work state are those
--- of the definitions, and the kept rows stay; where it isn't, nothing changed; and a limit is told exactly where the request would pass it
+-- of the definitions, where the work state keeps its rules, and the kept rows stay; where it isn't, nothing changed; and a limit is told exactly where the
+-- request would pass it
 pub record Serves {D K : Type 0} (number : ℕ) (request : Asked) (said : Reply) (old new : Parts D K) : Type 0 where
   pub quiet : is_quiet said ≡ true
   pub beside : IsBeside old new
   pub unchanged : is_entered said ≡ false → IsUnchanged old new
   pub served : is_entered said ≡ true → (context : RequestContext) →
       record { reply = said; book = book_in new } ≡ serve_now number context request (book_in old)
-  pub work : is_entered said ≡ true → (work : WorkState) → AreWork old work →
+  pub work : is_entered said ≡ true → (work : WorkState) → IsWork number (book_in old).rows work → AreWork old work →
       AreWork new (work_asked request said (book_in old).rows (book_in new).rows work)
   pub kept : new.kept.marks ≡ old.kept.marks
   pub reserves : KeepsReserves old new

@@ -5,8 +5,9 @@ ghost use Rattle.mat_model.specs.Legal.{IsLegalEntry, IsNumbered, MayAsk, end_of
 ghost use Rattle.model_laws.specs.RoomRules.{IsRoomy};
 ghost use Rattle.mat_model.specs.History.{Point, after};
 ghost use Rattle.mat_core.specs.Asks.{entry_of, request_asks};
-ghost use Rattle.mat_model.specs.Books.{IsBook};
+ghost use Rattle.model_laws.specs.PointRules.{IsPoint};
 ghost use Rattle.mat_core.specs.Books.{StandFor, book_in};
+ghost use Rattle.mat_core.specs.Replacing.{AreRuled};
 ghost use Rattle.mat_model.specs.Room.{full_asked};
 ghost use Rattle.std.specs.Option.{is_some};
 ghost use Rattle.mat_core.specs.Enters.{is_free_leave, leaving};
@@ -37,7 +38,7 @@ impl<D, K> Parts<D, K> {
     // Serves a request at the moment that the book has.
     fn serve(&mut self, request: Request) -> Reply
         requires bound { self.old.first + length self.old.history.items < 2 ^ 64 }
-        requires rules { IsBook (self.old.first + length self.old.history.items) (book_in self.old) }
+        requires rules { AreRuled (self.old.first + length self.old.history.items) self.old }
         ensures served { Serves (self.old.first + length self.old.history.items) (request_asks request) result self.old self.new }
         ensures leave { is_some (leaving (request_asks request)) ≡ true → is_want result ≡ false }
     {
@@ -50,6 +51,11 @@ impl<D, K> Parts<D, K> {
                 refuse,
             } => return self.serve_enter(number, command, state, soft, refuse),
             Request::Leave { command } => return self.serve_leave(command),
+            Request::Declare {
+                command,
+                path,
+                tree,
+            } => return self.serve_declare(number, command, path, tree),
             Request::Matches { command, path, sum } => {
                 return self.serve_matches(command, &path, sum);
             }
@@ -72,11 +78,11 @@ impl<D, K> Parts<D, K> {
     /// Serves a request that calls no device, and enters it in the history. The leave of a command that may go takes no memory.
     pub fn call(&mut self, by: By, now: u64, request: Request) -> Reply
         requires bound { self.old.first + spent_in self.old + 2 < 2 ^ 64 }
-        requires rules { IsBook (self.old.first + length self.old.history.items) (book_in self.old) }
+        requires rules { AreRuled (self.old.first + length self.old.history.items) self.old }
         requires reserves { HasReserves self.old }
         ensures quiet { is_quiet result ≡ true }
-        ensures stands { is_entered result ≡ true → (point : Point) → StandFor self.old point → StandFor self.new (after point (entry_of by self.new.moment request result)) }
-        ensures legal { is_entered result ≡ true → (point : Point) → StandFor self.old point → IsRoomy self.old.base.limits point → MayAsk (request_asks request) → IsNumbered point (entry_of by self.new.moment request result) → nat_lt now end_of_time ≡ true → IsLegalEntry self.old.base.limits point (entry_of by self.new.moment request result) }
+        ensures stands { is_entered result ≡ true → (point : Point) → StandFor self.old point → IsPoint point → StandFor self.new (after point (entry_of by self.new.moment request result)) }
+        ensures legal { is_entered result ≡ true → (point : Point) → StandFor self.old point → IsPoint point → IsRoomy self.old.base.limits point → MayAsk (request_asks request) → IsNumbered point (entry_of by self.new.moment request result) → nat_lt now end_of_time ≡ true → IsLegalEntry self.old.base.limits point (entry_of by self.new.moment request result) }
         ensures history { self.new.history.items ≡ (if is_entered result then self.old.history.items ++ entry_of by self.new.moment request result ∷ [] else self.old.history.items) }
         ensures devices { AreSameDevices self.old self.new }
         ensures unchanged { is_entered result ≡ false → StandsStill self.old self.new }

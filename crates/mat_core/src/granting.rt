@@ -13,7 +13,7 @@ use mat_path::{Memory, Path};
 use ticket_book::TicketBook;
 
 // The newest hold goes again, if it was new.
-fn take_back(holds: &mut HolderBook, new: bool)
+pub(crate) fn take_back(holds: &mut HolderBook, new: bool)
     requires { new ≡ true → 1 ≤ length holds.old }
     ensures { holds.new ≡ (if new then take (length holds.old - 1) holds.old else holds.old) }
 {

@@ -3,8 +3,9 @@ use Rattle.std.specs.Vec.{vec_capacity, vec_len}
 use Rattle.mat_model.specs.declared.entries.Event.TheVariants as event
 use Rattle.mat_core.specs.Asks.{request_asks}
 use Rattle.mat_core.specs.Books.{book_in}
+use Rattle.mat_core.specs.Replacing.{AreRuled}
 use Rattle.mat_core.specs.Served.{Serves}
-use Rattle.mat_core.proofs.CallLemmas.{call_legal, call_stands, full_told, raised_by, still_stands}
+use Rattle.mat_core.proofs.CallLemmas.{call_legal, call_stands, full_told, raised_by, ruled_raised, still_stands}
 use Rattle.mat_core.proofs.ReserveLemmas.{entry_has_place, raised_fits, reserves_called, reserves_grown, reserves_still}
 use Rattle.mat_core.proofs.parts.Parts.call.Goals as goal
 
@@ -52,7 +53,7 @@ push_reserved-requires g c =
     omega (arith, size, place)
 
 pub returns-clause-stands : goal.returns-clause-stands
-returns-clause-stands g c entered point stands =
+returns-clause-stands g c entered point stands ruled =
     call_stands c.args.by c.args.now (request_asks c.args.request) c.serve-reply.result c.args.self.now
     (record c.args.self.now { history = c.has_place.new.history; moment = c.max-self.result }) c.serve-reply.new.self
     (record c.serve-reply.new.self { history = c.push_reserved.new.self }) point
@@ -70,10 +71,10 @@ returns-clause-stands g c entered point stands =
           ++ record { by = c.args.by; now = c.serve-reply.new.self.moment; event = event.Asked (request_asks c.args.request); reply = r } ∷ [])
           c.once_more.ensures;
       capacity = c.push_reserved.ensures.capacity;
-    }) stands entered
+    }) stands ruled entered
 
 pub returns-clause-legal : goal.returns-clause-legal
-returns-clause-legal g c entered point stands roomy may numbered within =
+returns-clause-legal g c entered point stands ruled roomy may numbered within =
     call_legal c.args.by c.args.now (request_asks c.args.request) c.serve-reply.result c.args.self.now
     (record c.args.self.now { history = c.has_place.new.history; moment = c.max-self.result }) c.serve-reply.new.self
     (record c.serve-reply.new.self { history = c.push_reserved.new.self }) point
@@ -91,7 +92,7 @@ returns-clause-legal g c entered point stands roomy may numbered within =
           ++ record { by = c.args.by; now = c.serve-reply.new.self.moment; event = event.Asked (request_asks c.args.request); reply = r } ∷ [])
           c.once_more.ensures;
       capacity = c.push_reserved.ensures.capacity;
-    }) stands entered roomy may numbered within
+    }) stands ruled entered roomy may numbered within
 
 pub returns-clause-reserves : goal.returns-clause-reserves
 returns-clause-reserves g c =
@@ -127,3 +128,9 @@ returns-clause-full g c not_want point stands roomy =
     (raised_by c.args.now c.max-self.result c.args.self.now c.has_place.new.history c.max-self.ensures c.has_place.ensures.items c.has_place.ensures.capacity)
     (subst (λ h. Serves (c.args.self.now.first + length h) (request_asks c.args.request) c.serve-reply.result
     (record c.args.self.now { history = c.has_place.new.history; moment = c.max-self.result }) c.serve-reply.new.self) c.has_place.ensures.items c.serve-reply.ensures.served) stands roomy not_want
+
+pub serve-reply-requires-clause-rules : goal.serve-reply-requires-clause-rules
+serve-reply-requires-clause-rules g c =
+    subst (λ h. AreRuled (c.args.self.now.first + length h) (record c.args.self.now { history = c.has_place.new.history; moment = c.max-self.result })) (sym c.has_place.ensures.items)
+    (ruled_raised (c.args.self.now.first + length c.args.self.now.history.items) c.args.now c.args.self.now (record c.args.self.now { history = c.has_place.new.history; moment = c.max-self.result })
+    c.requires.rules (raised_by c.args.now c.max-self.result c.args.self.now c.has_place.new.history c.max-self.ensures c.has_place.ensures.items c.has_place.ensures.capacity))

@@ -4,7 +4,9 @@ use Rattle.mat_model.specs.declared.requests.Asked.TheVariants as asked
 use Rattle.mat_model.specs.Books.{IsBook}
 use Rattle.mat_core.specs.Asks.{request_asks}
 use Rattle.mat_core.specs.Books.{book_in}
+use Rattle.mat_core.specs.Replacing.{AreRuled}
 use Rattle.mat_core.specs.Served.{Serves}
+use Rattle.mat_core.proofs.ReplaceLemmas.{ruled_book}
 use Rattle.mat_core.proofs.parts.Parts.serve.Goals as goal
 
 pub returns-in-Enter-clause-served : goal.returns-in-Enter-clause-served
@@ -46,4 +48,18 @@ returns-in-Ensure-clause-served g c =
 pub serve_ensure-requires : goal.serve_ensure-requires
 serve_ensure-requires g c =
     let size : vec_len c.args.self.now.history ≡ length c.args.self.now.history.items = search rules in
-    subst (λ n. IsBook (c.args.self.now.first + n) (book_in c.args.self.now)) (sym (c.len.ensures ∙ size)) c.requires.rules
+    subst (λ n. IsBook (c.args.self.now.first + n) (book_in c.args.self.now)) (sym (c.len.ensures ∙ size))
+    (ruled_book (c.args.self.now.first + length c.args.self.now.history.items) c.args.self.now c.requires.rules)
+
+pub returns-in-Declare-clause-served : goal.returns-in-Declare-clause-served
+returns-in-Declare-clause-served g c =
+    let size : vec_len c.args.self.now.history ≡ length c.args.self.now.history.items = search rules in
+    subst (λ r. Serves (c.args.self.now.first + length c.args.self.now.history.items) (request_asks r) c.serve_declare.result c.args.self.now
+    c.serve_declare.new.self) (sym c.in-Declare.is)
+    (subst (λ n. Serves (c.args.self.now.first + n) (asked.Declare c.in-Declare.command c.in-Declare.path c.in-Declare.tree) c.serve_declare.result
+    c.args.self.now c.serve_declare.new.self) (c.len.ensures ∙ size) c.serve_declare.ensures)
+
+pub serve_declare-requires : goal.serve_declare-requires
+serve_declare-requires g c =
+    let size : vec_len c.args.self.now.history ≡ length c.args.self.now.history.items = search rules in
+    subst (λ n. AreRuled (c.args.self.now.first + n) c.args.self.now) (sym (c.len.ensures ∙ size)) c.requires.rules
