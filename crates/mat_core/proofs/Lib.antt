@@ -13,3 +13,4 @@ pub mod ReplaceLemmas
 pub mod ReserveLemmas
 pub mod ServeLemmas
 pub mod StartLemmas
+pub mod WriteLemmas

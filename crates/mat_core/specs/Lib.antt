@@ -13,3 +13,4 @@ pub mod Rooms
 pub mod Polls
 pub mod Events
 pub mod Replacing
+pub mod Writing

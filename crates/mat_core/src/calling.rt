@@ -51,6 +51,11 @@ impl<D, K> Parts<D, K> {
                 refuse,
             } => return self.serve_enter(number, command, state, soft, refuse),
             Request::Leave { command } => return self.serve_leave(command),
+            Request::Write {
+                command,
+                path,
+                bytes,
+            } => return self.serve_write(number, command, path, bytes.into_vec()),
             Request::Declare {
                 command,
                 path,

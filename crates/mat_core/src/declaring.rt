@@ -67,7 +67,7 @@ fn equal_row(rows: &RowBook, path: &Path, tree: &Tree) -> Option<u64>
 
 impl<D, K> Parts<D, K> {
     // The limit of entries or of nodes that would be passed by an entry that declares so many nodes.
-    fn full_nodes(&self, nodes: u64) -> Option<Limit>
+    pub(crate) fn full_nodes(&self, nodes: u64) -> Option<Limit>
         ensures { result ≡ full_nodes self.now nodes }
     {
         if self.lacks_entries(1) {
@@ -80,7 +80,7 @@ impl<D, K> Parts<D, K> {
     }
 
     // So many nodes more are declared, for which there is room.
-    fn count_nodes(&mut self, nodes: u64)
+    pub(crate) fn count_nodes(&mut self, nodes: u64)
         requires { nat_lt self.old.base.limits.nodes (self.old.nodes + nodes) ≡ false }
         ensures { self.new ≡ record self.old { nodes = self.old.nodes + nodes } }
     {
@@ -105,7 +105,7 @@ impl<D, K> Parts<D, K> {
     }
 
     // A tree is declared at a path by a live command, where there is room for the entry and the nodes.
-    fn declare(
+    pub(crate) fn declare(
         &mut self,
         number: u64,
         command: u32,

@@ -20,6 +20,7 @@ mod parts;
 mod replacing;
 mod room;
 mod starting;
+mod writing;
 
 pub use base::Base;
 pub use core_::{Core, Place, Poll};

@@ -1,5 +1,7 @@
-use Rattle.std.proofs.Common.{rules, ◌≡◌, ◌∙◌, ◌+◌, length, sym, subst}
+use Rattle.std.proofs.Common.{rules, ◌≡◌, ◌∙◌, ◌+◌, false, length, sym, subst}
 use Rattle.std.specs.Vec.{vec_len}
+use Rattle.mat_digest.specs.Digests.{digest_of}
+use Rattle.mat_tree.specs.Trees.{file_sum}
 use Rattle.mat_model.specs.declared.requests.Asked.TheVariants as asked
 use Rattle.mat_model.specs.Books.{IsBook}
 use Rattle.mat_core.specs.Asks.{request_asks}
@@ -61,5 +63,22 @@ returns-in-Declare-clause-served g c =
 
 pub serve_declare-requires : goal.serve_declare-requires
 serve_declare-requires g c =
+    let size : vec_len c.args.self.now.history ≡ length c.args.self.now.history.items = search rules in
+    subst (λ n. AreRuled (c.args.self.now.first + n) c.args.self.now) (sym (c.len.ensures ∙ size)) c.requires.rules
+
+pub returns-in-Write-clause-served : goal.returns-in-Write-clause-served
+returns-in-Write-clause-served g c =
+    let size : vec_len c.args.self.now.history ≡ length c.args.self.now.history.items = search rules in
+    subst (λ r. Serves (c.args.self.now.first + length c.args.self.now.history.items) (request_asks r) c.serve_write.result c.args.self.now
+    c.serve_write.new.self) (sym c.in-Write.is)
+    (subst (λ b. Serves (c.args.self.now.first + length c.args.self.now.history.items)
+    (asked.Write c.in-Write.command c.in-Write.path (file_sum (digest_of b) false)) c.serve_write.result c.args.self.now c.serve_write.new.self)
+    c.into_vec.ensures
+    (subst (λ n. Serves (c.args.self.now.first + n)
+    (asked.Write c.in-Write.command c.in-Write.path (file_sum (digest_of c.into_vec.result.items) false)) c.serve_write.result c.args.self.now
+    c.serve_write.new.self) (c.len.ensures ∙ size) c.serve_write.ensures))
+
+pub serve_write-requires : goal.serve_write-requires
+serve_write-requires g c =
     let size : vec_len c.args.self.now.history ≡ length c.args.self.now.history.items = search rules in
     subst (λ n. AreRuled (c.args.self.now.first + n) c.args.self.now) (sym (c.len.ensures ∙ size)) c.requires.rules
