@@ -42,6 +42,7 @@ pub enum Poll {
 }
 
 /// The daemon's book, its work and its devices.
+#[derive(Drop)]
 pub struct Core<D: Disk, K: Keeper> {
     pub(crate) parts: Parts<D, K>,
 }

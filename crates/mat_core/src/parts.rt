@@ -12,6 +12,7 @@ use row_book::RowBook;
 use ticket_book::TicketBook;
 
 /// What a core is made of. Its methods may leave it between two points.
+#[derive(Drop)]
 pub struct Parts<D, K> {
     pub base: Base<D, K>,
     pub first: u64,

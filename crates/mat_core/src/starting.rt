@@ -15,6 +15,7 @@ use std::alloc::Global;
 use std::snapshot::Snapshot;
 
 /// Why a core didn't start, with its devices as they are then.
+#[derive(Drop)]
 pub struct Shut<D, K> {
     pub why: ScanRefusal,
     pub disk: D,
