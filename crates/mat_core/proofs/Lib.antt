@@ -7,6 +7,7 @@ pub mod EventLemmas
 pub mod FallLemmas
 pub mod GrantLemmas
 pub mod LeaveLemmas
+pub mod ListLemmas
 pub mod LosingLemmas
 pub mod OpeningLemmas
 pub mod ReplaceLemmas

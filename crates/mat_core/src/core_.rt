@@ -1,5 +1,5 @@
 // The core.
-ghost use Rattle.std.specs.Prelude.{◌≡◌, ◌≤◌, ◌+◌, find, length};
+ghost use Rattle.std.specs.Prelude.{◌≡◌, ◌≤◌, ◌+◌, find, length, IfOk};
 ghost use Rattle.std.specs.Option.{option_copied, option_map};
 ghost use Rattle.mat_model.specs.WorkState.{stamp_of};
 ghost use Rattle.row_book.specs.Stocks.{row_of};
@@ -11,8 +11,8 @@ use crate::parts::Parts;
 use hall_lock::By;
 use job_book::Running;
 use keep_port::Keeper;
-use mat_model::{Answer, Card, Entry, Reply, Request, Ticket};
-use mat_path::Path;
+use mat_model::{Answer, Book, Card, Entry, Reply, Request, Ticket};
+use mat_path::{Memory, Path};
 use path_trie::Steps;
 use region_port::Disk;
 use row_book::Stock;
@@ -178,6 +178,13 @@ impl<D: Disk, K: Keeper> Core<D, K> {
             keeper,
         } = parts;
         (disk, keeper, history)
+    }
+
+    /// The book as it is, which is copied: it takes memory.
+    pub fn book(&self) -> Result<Book, Memory>
+        ensures { IfOk result (λ book. book ≡ (point_in self.now).book) }
+    {
+        self.parts.book()
     }
 }
 

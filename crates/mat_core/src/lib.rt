@@ -12,6 +12,7 @@ mod falling;
 mod granting;
 mod laws;
 mod leaving;
+mod listing;
 mod looking;
 mod losing;
 mod opening;
