@@ -1,5 +1,6 @@
 pub mod BegunLemmas
 pub mod CallLemmas
+pub mod CopyLemmas
 pub mod CoreLemmas
 pub mod DeclareLemmas
 pub mod EnterLemmas

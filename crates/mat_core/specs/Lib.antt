@@ -3,6 +3,7 @@ pub mod Books
 pub mod Cores
 pub mod Served
 pub mod Asks
+pub mod Copying
 pub mod Declaring
 pub mod Enters
 pub mod Falling

@@ -61,6 +61,11 @@ impl<D, K> Parts<D, K> {
                 path,
                 tree,
             } => return self.serve_declare(number, command, path, tree),
+            Request::Copy {
+                command,
+                path,
+                source,
+            } => return self.serve_copy(number, command, path, &source),
             Request::Matches { command, path, sum } => {
                 return self.serve_matches(command, &path, sum);
             }

@@ -4,6 +4,7 @@
 mod asking;
 mod base;
 mod calling;
+mod copying;
 mod core_;
 mod declaring;
 mod ensuring;

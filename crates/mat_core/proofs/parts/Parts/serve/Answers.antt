@@ -82,3 +82,16 @@ pub serve_write-requires : goal.serve_write-requires
 serve_write-requires g c =
     let size : vec_len c.args.self.now.history ≡ length c.args.self.now.history.items = search rules in
     subst (λ n. AreRuled (c.args.self.now.first + n) c.args.self.now) (sym (c.len.ensures ∙ size)) c.requires.rules
+
+pub returns-in-Copy-clause-served : goal.returns-in-Copy-clause-served
+returns-in-Copy-clause-served g c =
+    let size : vec_len c.args.self.now.history ≡ length c.args.self.now.history.items = search rules in
+    subst (λ r. Serves (c.args.self.now.first + length c.args.self.now.history.items) (request_asks r) c.serve_copy.result c.args.self.now
+    c.serve_copy.new.self) (sym c.in-Copy.is)
+    (subst (λ n. Serves (c.args.self.now.first + n) (asked.Copy c.in-Copy.command c.in-Copy.path c.in-Copy.source) c.serve_copy.result
+    c.args.self.now c.serve_copy.new.self) (c.len.ensures ∙ size) c.serve_copy.ensures)
+
+pub serve_copy-requires : goal.serve_copy-requires
+serve_copy-requires g c =
+    let size : vec_len c.args.self.now.history ≡ length c.args.self.now.history.items = search rules in
+    subst (λ n. AreRuled (c.args.self.now.first + n) c.args.self.now) (sym (c.len.ensures ∙ size)) c.requires.rules
