@@ -1,5 +1,5 @@
 -- What is declared at a source is declared elsewhere.
-use Rattle.std.proofs.Common.{◌≡◌, ◌+◌, zero, suc, nat_le, nat_lt, ℕ, Bool, true, false, ◌&&◌, cond, List, [], ◌∷◌, count_by, find, length, drop, Option, Some, None, refl, ◌∙◌, sym, ap, ap₂, subst, arith}
+use Rattle.std.proofs.Common.{◌≡◌, ◌+◌, zero, suc, nat_le, nat_lt, ℕ, Bool, true, false, ◌&&◌, cond, List, [], ◌∷◌, count_by, find, length, drop, Option, Some, None, refl, ◌∙◌, sym, ap, ap₂, arith}
 use Rattle.std.specs.List.{list_all}
 use Rattle.std.specs.Option.{option_and_then, option_map, option_map_or}
 use Rattle.std.proofs.lemmas.Bool.{and_from, and_parts, le-leb, leb-true}
@@ -9,9 +9,7 @@ use Rattle.mat_tree.specs.declared.flat.Flat.{Flat}
 use Rattle.mat_tree.specs.Trees.{has_node, is_placed}
 use Rattle.mat_model.specs.declared.answers.Limit.{Limit}
 use Rattle.mat_model.specs.declared.answers.Limit.TheVariants as limit
-use Rattle.mat_model.specs.declared.answers.Reply.{Reply}
 use Rattle.mat_model.specs.declared.answers.Reply.TheVariants as reply
-use Rattle.mat_model.specs.declared.book.Book.{Book}
 use Rattle.mat_model.specs.declared.book.Row.{Row}
 use Rattle.mat_model.specs.declared.requests.Asked.{Asked}
 use Rattle.mat_model.specs.declared.requests.Asked.TheVariants as asked
@@ -22,8 +20,7 @@ use Rattle.mat_model.specs.Requests.{RequestContext, serve_now}
 use Rattle.mat_model.specs.Room.{entries_for, full_served, held_bytes, is_declaration, row_paths, waits_past}
 use Rattle.mat_model.specs.Rows.{cover, covers}
 use Rattle.mat_model.specs.Tickets.{is_open}
-use Rattle.mat_model.specs.WorkState.{WorkState, copied, copied_from, is_held_way, store, ways_after}
-use Rattle.model_laws.specs.RoomRules.{IsRoomy}
+use Rattle.mat_model.specs.WorkState.{copied, copied_from, is_held_way, store, ways_after}
 use Rattle.model_laws.proofs.Elements.{found_contains, found_passes}
 use Rattle.write_plan.specs.declared.method.Method.{Method}
 use Rattle.write_plan.specs.declared.method.Method.TheVariants as method
@@ -31,7 +28,7 @@ use Rattle.row_book.specs.declared.stock.Stock.{Stock}
 use Rattle.row_book.specs.Stocks.{covers_stock, is_held_origin, row_of, rows_of}
 use Rattle.row_book.proofs.FindLemmas.{none_is}
 use Rattle.row_book.proofs.RowLemmas.{rows_found}
-use Rattle.mat_core.specs.Books.{AreWork, StandFor, book_in, way_in}
+use Rattle.mat_core.specs.Books.{StandFor, book_in, way_in}
 use Rattle.mat_core.specs.Copying.{copied_at, copied_in, copy_of, origin_in, with_copy}
 use Rattle.mat_core.specs.Declaring.{IsDeclaring, full_nodes}
 use Rattle.mat_core.specs.Rooms.{spent_in}
@@ -96,6 +93,7 @@ copy_live number command path source old context live =
     ap (λ b. cond {A = Served} b (copy_tree number command path (book_in old) (declared_at (book_in old).rows source))
     (record { reply = reply.NotLive; book = book_in old })) live
 
+-- a command that isn't live is told so
 pub copy_dead : {D K : Type 0} (number command : ℕ) (path source : List (List ℕ)) (old : Parts D K) (context : RequestContext) →
     is_live command (book_in old) ≡ false →
     serve_now number context (asked.Copy command path source) (book_in old) ≡ record { reply = reply.NotLive; book = book_in old }
@@ -103,6 +101,7 @@ copy_dead number command path source old context dead =
     ap (λ b. cond {A = Served} b (copy_tree number command path (book_in old) (declared_at (book_in old).rows source))
     (record { reply = reply.NotLive; book = book_in old })) dead
 
+-- a source where nothing is declared that isn't a link
 pub copy_none : {D K : Type 0} (number command : ℕ) (path source : List (List ℕ)) (old : Parts D K) (context : RequestContext) →
     is_live command (book_in old) ≡ true → copied_in old.rows source ≡ None →
     serve_now number context (asked.Copy command path source) (book_in old) ≡ record { reply = reply.NoSource; book = book_in old }
@@ -119,6 +118,7 @@ copy_some number command path source copy fits old context live some placed =
     ∙ ap (copy_tree number command path (book_in old)) (declared_from old.rows source copy (is_from old.rows source copy some))
     ∙ ap (λ b. cond {A = Served} b (declare number command path copy.tree (book_in old)) (record { reply = reply.TooLong; book = book_in old })) placed
 
+-- a node of the copy would be at a path that is too long
 pub copy_long : {D K : Type 0} (number command : ℕ) (path source : List (List ℕ)) (copy : Copied) (old : Parts D K) (context : RequestContext) →
     is_live command (book_in old) ≡ true → copied_in old.rows source ≡ Some copy → list_all (is_placed path) copy.tree ≡ false →
     serve_now number context (asked.Copy command path source) (book_in old) ≡ record { reply = reply.TooLong; book = book_in old }
