@@ -22,6 +22,8 @@ mod parts;
 mod replacing;
 mod room;
 mod starting;
+#[cfg(test)]
+mod tests;
 mod writing;
 
 pub use base::Base;
