@@ -1,14 +1,17 @@
 -- Numbers in strict order, where one comes and where one goes.
-use Rattle.std.proofs.Common.{◌≡◌, ℕ, suc, nat_lt, nat_le, ◌<◌, ◌==◌, Bool, true, false, not, cond, List, [], ◌∷◌, ◌++◌, Less, Equal, Greater, refl, ◌∙◌, sym, ap, subst, is_eq, arith, Option, Some, None}
-use Rattle.std.proofs.lemmas.Bool.{and_from, and_parts, eqb-true, eq-eqb, le-leb, leb-true, lt-leb, ne_eqb}
+use Rattle.std.proofs.Common.{◌≡◌, ℕ, suc, nat_lt, nat_le, ◌<◌, ◌==◌, Bool, true, false, not, ◌&&◌, cond, List, [], ◌∷◌, ◌++◌, Less, Equal, Greater, refl, ◌∙◌, sym, ap, subst, is_eq, arith, Option, Some}
+use Rattle.std.proofs.lemmas.Bool.{and_parts, eqb-false, eqb-true, eq-eqb, le-leb, leb-false, leb-true, lt-leb, ne_eqb}
 use Rattle.std.proofs.lemmas.Map.Keys.{sorted_head, sorted_tail}
 use Rattle.std.specs.BTreeMap.{is_at}
+use Rattle.std.specs.BTreeMap.Range.{range_contains}
 use Rattle.std.specs.BTreeSet.{insert_key}
-use Rattle.std.specs.List.{AllByRecursion, filter, list_all, slice_get}
+use Rattle.std.specs.List.{AllByRecursion, filter, find, list_all}
 use Rattle.std.specs.List.Sorted.{IsStrictlySortedBy}
-use Rattle.std.specs.Ordering.{match_ordering, nat_cmp}
+use Rattle.std.specs.Ordering.{is_le, match_ordering, nat_cmp}
 use Rattle.std.specs.Set.{remove_key}
-use Rattle.ticket_book.specs.ByPath.{is_other, least, lower}
+use Rattle.std.specs.declared.ops.Bound.TheVariants.{Included, Unbounded}
+use Rattle.path_trie.proofs.Lists.{find_first, first_of}
+use Rattle.ticket_book.specs.ByPath.{is_other}
 
 -- whether a number is lower than another
 abbrev pub is_lower : ℕ → ℕ → Bool
@@ -58,33 +61,29 @@ none_other n (x ∷ xs) all =
     ap (λ b. cond (not b) (x ∷ filter (is_other n) xs) (filter (is_other n) xs)) (ne_eqb x n (λ same. absurd (omega (arith, less, same))))
     ∙ ap (λ ms. x ∷ ms) (none_other n xs parts.1)
 
--- ---- the lowest
+-- ---- the first from one on
 
-pub lowest_of : (n : ℕ) (ns : List ℕ) → list_all (nat_le n) ns ≡ true → lower n (least ns) ≡ Some n
-lowest_of n [] all = refl
-lowest_of n (x ∷ xs) all = let parts = and_parts (nat_le n x) (list_all (nat_le n) xs) all in by (least xs) (lowest_of n xs parts.1)
+-- tests that answer alike find the same
+pub find_alike : {A : Type 0} (p q : A → Bool) → ((x : A) → p x ≡ q x) → (xs : List A) → find p xs ≡ find q xs
+find_alike p q same [] = refl
+find_alike {A} p q same (x ∷ xs) =
+    ap (λ b. cond b (Some x) (find p xs)) (same x) ∙ ap (λ (o : Option A). cond (q x) (Some x) o) (find_alike p q same xs)
+
+-- a number is in the range from one on where it isn't below it
+in_range : (n m : ℕ) → range_contains nat_cmp (Included n) Unbounded m ≡ nat_le n m
+in_range n m = by (nat_lt n m) refl (n == m) refl
   where
-    here : (m : ℕ) → nat_le n m ≡ true → lower n (Some m) ≡ Some n
-    here m low = ap (λ b. cond b (Some n) (Some m)) low
+    past : (a b : ℕ) → b < suc a → (a ≡ b → ⊥) → b < a
+    past a b least other = omega (arith, least, other)
 
-    by : (o : Option ℕ) → lower n o ≡ Some n → lower n (lower x o) ≡ Some n
-    by None more = here x (and_parts (nat_le n x) (list_all (nat_le n) xs) all).0
-    by (Some m) more = pick (nat_le x m)
-      where
-        pick : (b : Bool) → lower n (cond b (Some x) (Some m)) ≡ Some n
-        pick true = here x (and_parts (nat_le n x) (list_all (nat_le n) xs) all).0
-        pick false = more
+    by : (a : Bool) → nat_lt n m ≡ a → (b : Bool) → (n == m) ≡ b → (is_le (cond a Less (cond b Equal Greater)) && true) ≡ nat_le n m
+    by true less b e = let so = leb-true (suc n) m less in sym (le-leb n m (omega (arith, so)))
+    by false more true e = let same = eqb-true n m e in sym (le-leb n m (omega (arith, same)))
+    by false more false e = sym (lt-leb n m (past n m (leb-false (suc n) m more) (eqb-false n m e)))
 
-all_higher : (n : ℕ) (ns : List ℕ) → AllByRecursion (λ y. nat_cmp n y ≡ Less) ns → list_all (nat_le n) ns ≡ true
-all_higher n [] all = refl
-all_higher n (x ∷ xs) all = and_from (nat_le n x) (list_all (nat_le n) xs) (by (nat_lt n x) refl (n == x) refl all.0) (all_higher n xs all.1)
-  where
-    by : (a : Bool) → nat_lt n x ≡ a → (b : Bool) → (n == x) ≡ b → cond a Less (cond b Equal Greater) ≡ Less → nat_le n x ≡ true
-    by true less b e h = let so = leb-true (suc n) x less in le-leb n x (omega (arith, so))
-    by false more true e h = cc
-    by false more false e h = cc
-
--- the first is the lowest
-pub first_least : (n : ℕ) (ns : List ℕ) → IsStrictlySortedBy nat_cmp ns → slice_get ns 0 ≡ Some n → Some n ≡ least ns
-first_least n [] order e = cc
-first_least n (x ∷ xs) order e = sym e ∙ sym (lowest_of x xs (all_higher x xs (sorted_head nat_cmp x xs order)))
+-- the first number in that range
+pub next_found : (n : ℕ) (ns range : List ℕ) → range ≡ filter (range_contains nat_cmp (Included n) Unbounded) ns → first_of range ≡ find (nat_le n) ns
+next_found n ns range is =
+    ap first_of is
+    ∙ sym (find_first (range_contains nat_cmp (Included n) Unbounded) ns)
+    ∙ find_alike (range_contains nat_cmp (Included n) Unbounded) (nat_le n) (in_range n) ns

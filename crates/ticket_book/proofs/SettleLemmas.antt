@@ -1,11 +1,11 @@
 -- The numbers at a key of a table, or at the paths that overlap one, are those of the tickets that are due there, and these are answered.
-use Rattle.std.proofs.Common.{◌≡◌, ◌+◌, ℕ, nat_lt, Bool, true, false, ◌&&◌, ◌||◌, cond, List, [], ◌∷◌, ◌++◌, inl, inr, map, take, drop, length, refl, ◌∙◌, sym, ap, arith, count_by, Option}
-use Rattle.std.proofs.lemmas.Bool.{and_parts}
+use Rattle.std.proofs.Common.{◌≡◌, ◌+◌, ℕ, nat_le, Bool, true, false, ◌&&◌, ◌||◌, cond, List, [], ◌∷◌, ◌++◌, inl, inr, map, take, drop, length, refl, ◌∙◌, sym, ap, arith, count_by, Option, Some}
+use Rattle.std.proofs.lemmas.Bool.{le-leb}
 use Rattle.std.proofs.lemmas.List.{length-map, take-append-drop, take-append-le, take_all}
 use Rattle.std.proofs.lemmas.List.Sorted.{IsNonDecreasingBy-from_sort, sum_by-IsPermutation}
 use Rattle.std.proofs.lemmas.List.Sums.{length-filter, sum_by-append, sum_by-cons}
 use Rattle.std.proofs.Math.Seq.{drop-append_seam}
-use Rattle.std.specs.List.{filter, list_all, sum_by}
+use Rattle.std.specs.List.{filter, find, sum_by}
 use Rattle.std.specs.List.Sorted.{IsPermutation, IsSorted}
 use Rattle.std.specs.Option.{option_map}
 use Rattle.std.specs.Ordering.{is_lt, nat_cmp, ordering_reverse}
@@ -18,14 +18,13 @@ use Rattle.mat_model.specs.Books.{are_ascending, number_of}
 use Rattle.mat_model.specs.Tickets.{is_open}
 use Rattle.path_trie.specs.declared.entry.Entry.{Entry}
 use Rattle.path_trie.specs.Entries.{ascends, is_above}
-use Rattle.path_trie.proofs.Lists.{find_first, first_of}
-use Rattle.ticket_book.specs.Asked.{AreTickets, Tickets, answer_all, answered_if, asks_over, is_due, is_same, lowest}
-use Rattle.ticket_book.specs.ByPath.{AreAsOften, IsIndexed, all_numbers, asks_so, due_numbers, is_among, is_inside, least, list_or_empty, some_list}
+use Rattle.ticket_book.specs.Asked.{AreTickets, Tickets, answer_all, answered_if, asks_below, asks_below_from, asks_over, is_due, is_from, is_same, lowest}
+use Rattle.ticket_book.specs.ByPath.{AreAsOften, IsIndexed, all_numbers, asks_so, due_numbers, is_among, is_inside, list_or_empty, some_list}
 use Rattle.ticket_book.specs.Index.{overlap_numbers}
 use Rattle.ticket_book.proofs.AnswerLemmas.{answered_rules, answered_size}
 use Rattle.ticket_book.proofs.DueLemmas.{due_cons, index_whole, or_empty}
-use Rattle.ticket_book.proofs.NumberLemmas.{lowest_of}
-use Rattle.ticket_book.proofs.RowLemmas.{due_ascending, less_least, marked_all, never_falls, same_sorted}
+use Rattle.ticket_book.proofs.NumberLemmas.{find_alike}
+use Rattle.ticket_book.proofs.RowLemmas.{due_ascending, marked_all, never_falls, same_sorted}
 
 -- ---- two tests of paths that part a third
 
@@ -195,22 +194,34 @@ book_answered test at given ts news old mid ns new k are place is often answer =
         answered.1
         ∙ ap (λ ms. ms ++ due_numbers test ts) (ap (take k) is ∙ take-append-le k old ns (omega (arith, place)) ∙ take_all k old (omega (arith, place)))
 
--- ---- the lowest
+-- ---- the lowest from a number on
 
--- of numbers that ascend it is the first
-least_first : (ns : List ℕ) → are_ascending ns ≡ true → least ns ≡ first_of ns
-least_first [] ascend = refl
-least_first (n ∷ ns) ascend = lowest_of n ns (less_least n ns (and_parts (list_all (nat_lt n) ns) (are_ascending ns) ascend).0)
+-- the first number from one on of the tickets that are due is that of the first ticket that is due and isn't below it
+next_due : (test : Ticket → Bool) (from : ℕ) (ts : List Ticket)
+    → find (nat_le from) (due_numbers test ts) ≡ lowest (λ (t : Ticket). is_from from t && test t) ts
+next_due test from [] = refl
+next_due test from (x ∷ ts) =
+    ap (find (nat_le from)) (due_cons test x ts) ∙ by (is_open x) (test x) (nat_le from x.number) refl (next_due test from ts)
+  where
+    both : Ticket → Bool
+    both t = is_from from t && test t
 
-first_number : (ts : List Ticket) → option_map number_of (first_of ts) ≡ first_of (map number_of ts)
-first_number [] = refl
-first_number (t ∷ ts) = refl
+    by : (a b c : Bool) → nat_le from x.number ≡ c → find (nat_le from) (due_numbers test ts) ≡ lowest both ts
+        → find (nat_le from) (cond (a && b) (x.number ∷ due_numbers test ts) (due_numbers test ts))
+        ≡ option_map number_of (cond (a && (c && b)) (Some x) (find (is_due both) ts))
+    by true true true e more = ap (λ d. cond d (Some x.number) (find (nat_le from) (due_numbers test ts))) e
+    by true true false e more = ap (λ d. cond d (Some x.number) (find (nat_le from) (due_numbers test ts))) e ∙ more
+    by true false true e more = more
+    by true false false e more = more
+    by false b c e more = more
 
--- the lowest number at a key of a table is that of the first ticket that is due there
-pub table_lowest : (test : Ticket → Bool) (ts : List Ticket) (kept : Option (List ℕ)) → kept ≡ some_list (due_numbers test ts) → are_ascending (map number_of ts) ≡ true
-    → least (list_or_empty kept) ≡ lowest test ts
-table_lowest test ts kept is ascend =
-    ap least (table_numbers test ts kept is)
-    ∙ least_first (due_numbers test ts) (due_ascending test ts ascend)
-    ∙ sym (first_number (filter (is_due test) ts))
-    ∙ ap (option_map number_of) (sym (find_first (is_due test) ts))
+-- so it is at a key of a table
+pub table_next : (path : List (List ℕ)) (from : ℕ) (ts : List Ticket) (kept : Option (List ℕ)) → kept ≡ some_list (due_numbers (asks_below path) ts)
+    → find (nat_le from) (list_or_empty kept) ≡ lowest (asks_below_from path from) ts
+table_next path from ts kept is = ap (find (nat_le from)) (table_numbers (asks_below path) ts kept is) ∙ next_due (asks_below path) from ts
+
+-- from 0 on it is the lowest of all
+pub lowest_all : (path : List (List ℕ)) (ts : List Ticket) → lowest (asks_below_from path 0) ts ≡ lowest (asks_below path) ts
+lowest_all path ts =
+    ap (option_map number_of)
+    (find_alike (is_due (asks_below_from path 0)) (is_due (asks_below path)) (λ t. ap (λ b. is_open t && (b && asks_below path t)) (le-leb 0 t.number (omega arith))) ts)

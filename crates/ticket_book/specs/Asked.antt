@@ -34,6 +34,10 @@ is_earlier number ticket = nat_lt ticket.number number
 abbrev pub is_from : ℕ → Ticket → Bool
 is_from number ticket = nat_le number ticket.number
 
+-- whether a ticket asks for a path at or below one, and its number isn't below another
+abbrev pub asks_below_from : List (List ℕ) → ℕ → Ticket → Bool
+asks_below_from path from ticket = is_from from ticket && asks_below path ticket
+
 -- whether a ticket is open and passes a test
 abbrev pub is_due : (Ticket → Bool) → Ticket → Bool
 is_due test ticket = is_open ticket && test ticket

@@ -1,5 +1,5 @@
 -- The numbers of the open tickets by the path that they ask for and by command: no contract outside speaks of it.
-use Rattle.std.specs.Prelude.{◌≡◌, ℕ, nat_le, Bool, true, false, not, if◌then◌else◌, List, [], ◌∷◌, map, count_by, Option, Some, None}
+use Rattle.std.specs.Prelude.{◌≡◌, ℕ, Bool, true, false, not, List, [], ◌∷◌, map, count_by, Option, Some, None}
 use Rattle.std.specs.BTreeMap.{BTreeMap, get}
 use Rattle.std.specs.BTreeSet.{insert_key}
 use Rattle.std.specs.List.{filter, flat_map, list_any}
@@ -69,16 +69,6 @@ abbrev pub is_bare : Option (List ℕ) → Bool
 is_bare None = false
 is_bare (Some []) = true
 is_bare (Some (n ∷ ns)) = false
-
--- the lower of a number and another, if there is one
-abbrev pub lower : ℕ → Option ℕ → Option ℕ
-lower n None = Some n
-lower n (Some m) = if nat_le n m then Some n else Some m
-
--- the lowest of some numbers
-abbrev pub least : List ℕ → Option ℕ
-least [] = None
-least (n ∷ ns) = lower n (least ns)
 
 -- each number is in two lists as often
 abbrev pub AreAsOften : List ℕ → List ℕ → Type 0

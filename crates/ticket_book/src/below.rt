@@ -1,10 +1,10 @@
-ghost use Rattle.std.specs.Prelude.{◌≡◌, ◌+◌, ◌≤◌, ◌++◌, ℕ, List, None, is_ok, length, if◌then◌else◌, IfOk};
-ghost use Rattle.std.specs.List.{filter};
+ghost use Rattle.std.specs.Prelude.{◌≡◌, ◌+◌, ◌≤◌, ◌++◌, ℕ, List, None, is_ok, length, nat_le, if◌then◌else◌, IfOk};
+ghost use Rattle.std.specs.List.{filter, find};
 ghost use Rattle.std.specs.Option.{option_map};
 ghost use Rattle.std.specs.Vec.{vec_capacity};
 ghost use Rattle.mat_path.specs.Names.{is_prefix, same_names};
 ghost use Rattle.ticket_book.specs.Below.{is_start, numbers_at};
-ghost use Rattle.ticket_book.specs.ByPath.{is_bare, is_other, least, list_or_empty, numbers_less, numbers_with};
+ghost use Rattle.ticket_book.specs.ByPath.{is_bare, is_other, list_or_empty, numbers_less, numbers_with};
 
 use crate::numbers::Numbers;
 use mat_path::{Memory, Name};
@@ -117,12 +117,16 @@ pub(crate) fn drop_all(below: &mut BTreeMap<Vec<Name>, Numbers>, names: &[Name],
     drop_some(below, names, number, names.len() + 1);
 }
 
-// The lowest number at a list of names.
-pub(crate) fn lowest_at(below: &BTreeMap<Vec<Name>, Numbers>, names: &[Name]) -> Option<u64>
-    ensures { result ≡ least (list_or_empty (numbers_at names.now below.now)) }
+// The first number that isn't below one, of those at a list of names.
+pub(crate) fn next_at(
+    below: &BTreeMap<Vec<Name>, Numbers>,
+    names: &[Name],
+    from: u64,
+) -> Option<u64>
+    ensures { result ≡ find (nat_le from) (list_or_empty (numbers_at names.now below.now)) }
 {
     match below.get(names) {
-        Some(numbers) => numbers.first(),
+        Some(numbers) => numbers.next(from),
         None => None,
     }
 }

@@ -3,7 +3,7 @@ ghost use Rattle.std.specs.List.{list_all, list_any, slice_get};
 ghost use Rattle.std.specs.Option.{option_and_then, option_copied};
 ghost use Rattle.mat_model.specs.Requests.{is_open_of};
 ghost use Rattle.mat_model.specs.Tickets.{is_open};
-ghost use Rattle.ticket_book.specs.Asked.{AreTickets, answer_all, asks_below, asks_for, asks_over, has_number, is_due, is_earlier, is_from, lowest, ticket_at, with_ticket};
+ghost use Rattle.ticket_book.specs.Asked.{AreTickets, answer_all, asks_below, asks_below_from, asks_for, asks_over, has_number, is_due, is_earlier, is_from, lowest, ticket_at, with_ticket};
 
 use crate::index::Index;
 use crate::lists;
@@ -155,7 +155,14 @@ impl TicketBook {
     pub fn lowest_below(&self, path: &Path) -> Option<u64>
         ensures { result ≡ lowest (asks_below path.now) self.now.all }
     {
-        self.index.lowest_under(path)
+        self.next_below(path, 0)
+    }
+
+    /// The lowest number, from one on, of an open ticket that asks for a path at or below this one.
+    pub fn next_below(&self, path: &Path, from: u64) -> Option<u64>
+        ensures { result ≡ lowest (asks_below_from path.now from) self.now.all }
+    {
+        self.index.next_under(path, from)
     }
 
     /// The lowest number of an open ticket that isn't below this one.

@@ -1,6 +1,6 @@
-ghost use Rattle.std.specs.Prelude.{◌≡◌, ◌==◌, ◌&&◌, ◌+◌, ◌≤◌, ◌++◌, ℕ, List, [], ◌∷◌, true, is_ok, length, if◌then◌else◌};
+ghost use Rattle.std.specs.Prelude.{◌≡◌, ◌==◌, ◌&&◌, ◌+◌, ◌≤◌, ◌++◌, ℕ, List, [], ◌∷◌, true, is_ok, length, nat_le, if◌then◌else◌};
 ghost use Rattle.std.specs.BTreeMap.{get};
-ghost use Rattle.std.specs.List.{list_all};
+ghost use Rattle.std.specs.List.{find, list_all};
 ghost use Rattle.std.specs.Ordering.{nat_cmp};
 ghost use Rattle.std.specs.Vec.{vec_capacity};
 ghost use Rattle.mat_path.specs.Names.{is_prefix, same_names};
@@ -9,7 +9,7 @@ ghost use Rattle.mat_model.specs.Tickets.{is_open};
 ghost use Rattle.path_trie.specs.Entries.{ascends, value_at};
 ghost use Rattle.ticket_book.specs.Asked.{answered_if, has_number, is_due, is_earlier};
 ghost use Rattle.ticket_book.specs.Below.{IsGathered, numbers_at};
-ghost use Rattle.ticket_book.specs.ByPath.{IsFiled, IsIndexed, least, list_or_empty, numbers_less};
+ghost use Rattle.ticket_book.specs.ByPath.{IsFiled, IsIndexed, list_or_empty, numbers_less};
 ghost use Rattle.ticket_book.specs.Index.{IsIndex, overlap_numbers};
 
 use crate::numbers::Numbers;
@@ -113,11 +113,11 @@ impl Index {
         by_path::list_inside(&self.paths, path, numbers);
     }
 
-    // The lowest number at and below a path.
-    pub(crate) fn lowest_under(&self, path: &Path) -> Option<u64>
-        ensures { result ≡ least (list_or_empty (numbers_at path.now self.now.below)) }
+    // The first number that isn't below one, of those at and below a path.
+    pub(crate) fn next_under(&self, path: &Path, from: u64) -> Option<u64>
+        ensures { result ≡ find (nat_le from) (list_or_empty (numbers_at path.now self.now.below)) }
     {
-        below::lowest_at(&self.below, path.names())
+        below::next_at(&self.below, path.names(), from)
     }
 
     // The law of the paths' table. It does nothing.

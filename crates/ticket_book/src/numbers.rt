@@ -1,9 +1,9 @@
-ghost use Rattle.std.specs.Prelude.{◌≡◌, ◌+◌, ◌≤◌, ◌++◌, [], is_ok, length, nat_eq, if◌then◌else◌};
+ghost use Rattle.std.specs.Prelude.{◌≡◌, ◌+◌, ◌≤◌, ◌++◌, [], is_ok, length, nat_eq, nat_le, if◌then◌else◌};
 ghost use Rattle.std.specs.BTreeSet.{insert_key};
-ghost use Rattle.std.specs.List.{filter};
+ghost use Rattle.std.specs.List.{filter, find};
 ghost use Rattle.std.specs.Ordering.{nat_cmp};
 ghost use Rattle.std.specs.Vec.{vec_capacity};
-ghost use Rattle.ticket_book.specs.ByPath.{is_other, least};
+ghost use Rattle.ticket_book.specs.ByPath.{is_other};
 
 use mat_path::Memory;
 use std::alloc::Global;
@@ -64,12 +64,11 @@ impl Numbers {
         self.set.len() == 0
     }
 
-    /// The lowest number.
-    pub(crate) fn first(&self) -> Option<u64>
-        ensures { result ≡ least self.now }
+    /// The first number that isn't below one. In time for a logarithm of how many there are.
+    pub(crate) fn next(&self, from: u64) -> Option<u64>
+        ensures { result ≡ find (nat_le from) self.now }
     {
-        let _count = self.set.len();
-        match self.set.first() {
+        match self.set.range(from..).next() {
             Some(number) => Some(*number),
             None => None,
         }

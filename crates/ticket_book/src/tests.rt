@@ -52,11 +52,12 @@ fn carry_out(alloc: Global, book: &mut TicketBook, step: &Step) -> Result<(), Fa
     Ok(())
 }
 
-/// Sees the lowest number below a path, and how many tickets of the commands 1, 2 and 3 are open.
-fn see(alloc: Global, book: &TicketBook, path: &[u8]) -> Result<[Option<u64>; 4], Fail> {
+/// Sees the lowest number below a path, in all and from 5 on, and how many tickets of the commands 1, 2 and 3 are open.
+fn see(alloc: Global, book: &TicketBook, path: &[u8]) -> Result<[Option<u64>; 5], Fail> {
     let path = Path::read(alloc, path)?;
     Ok([
         book.lowest_below(&path),
+        book.next_below(&path, 5),
         Some(book.open_of(1)),
         Some(book.open_of(2)),
         Some(book.open_of(3)),
@@ -81,20 +82,26 @@ fn tickets_are_asked_and_answered(rt: HostRuntime) -> Result<(), Fail> {
     ask_all(alloc, &mut book, asks.as_slice())?;
     // what is answered, and what is seen below out then
     let table = [
-        (Step::Row(b"out/b/x"), [Some(1), Some(4), Some(3), Some(2)]),
+        (
+            Step::Row(b"out/b/x"),
+            [Some(1), Some(5), Some(4), Some(3), Some(2)],
+        ),
         (
             Step::Overlap(b"out/a/b"),
-            [Some(4), Some(1), Some(1), Some(2)],
+            [Some(4), Some(7), Some(1), Some(1), Some(2)],
         ),
         (
             Step::Overlap(b"out/c"),
-            [Some(4), Some(1), Some(1), Some(2)],
+            [Some(4), Some(7), Some(1), Some(1), Some(2)],
         ),
-        (Step::Row(b"out/b"), [Some(4), Some(1), Some(0), Some(2)]),
-        (Step::Command(3), [Some(4), Some(1), Some(0), Some(0)]),
+        (
+            Step::Row(b"out/b"),
+            [Some(4), Some(8), Some(1), Some(0), Some(2)],
+        ),
+        (Step::Command(3), [Some(4), None, Some(1), Some(0), Some(0)]),
         (
             Step::Overlap(b"out/a/bb/x/y"),
-            [None, Some(0), Some(0), Some(0)],
+            [None, None, Some(0), Some(0), Some(0)],
         ),
     ];
     for (step, seen) in table.as_slice() {
