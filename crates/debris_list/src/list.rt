@@ -44,6 +44,13 @@ impl DebrisList {
         }
     }
 
+    /// How many pieces there are. Takes no memory.
+    pub fn len(&self) -> usize
+        ensures { result ≡ length self.now.list }
+    {
+        self.pieces.len()
+    }
+
     /// Gives room for so many more pieces at least. For want of memory there is no less room than before.
     pub fn reserve(&mut self, n: u64) -> Result<(), Memory>
         ensures list { self.new.list ≡ self.old.list }
