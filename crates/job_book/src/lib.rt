@@ -7,7 +7,7 @@ mod loans;
 mod running;
 
 pub use book::JobBook;
-pub use running::{LentPart, LentTree, Running};
+pub use running::{KeptBytes, LentPart, LentTree, Running};
 
 #[cfg(test)]
 mod tests;

@@ -19,12 +19,19 @@ pub struct LentPart {
     pub cleaned: bool,
 }
 
-/// A job that runs: its number and task, who began it, the part that it reads, if it reads one, and the bytes of the kept row that is to
-/// be stored when it ends well: none for a wipe.
+/// The row that is stored when a make ends well, as the state store keeps it: the text of its path, and its bytes.
+#[derive(Drop)]
+pub struct KeptBytes {
+    pub path: Vec<u8>,
+    pub body: Vec<u8>,
+}
+
+/// A job that runs: its number and task, who began it, the part that it reads, if it reads one, and the row that is stored when it ends
+/// well: none for a wipe.
 #[derive(Drop)]
 pub struct Running {
     pub card: Card,
     pub caller: u32,
     pub lent: Option<LentPart>,
-    pub body: Vec<u8>,
+    pub kept: Option<KeptBytes>,
 }

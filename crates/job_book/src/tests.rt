@@ -103,7 +103,7 @@ fn carry_out(alloc: Global, book: &mut JobBook, step: &Step) -> Result<bool, Fai
                 card: Card { job: *job, task },
                 caller: 0,
                 lent,
-                body: Vec::new(alloc),
+                kept: None,
             };
             start(book, running)
         }
