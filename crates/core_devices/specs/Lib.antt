@@ -1,0 +1,6 @@
+pub mod Told
+pub mod Events
+pub mod Takes
+pub mod Gives
+pub mod Removals
+pub mod Stores
