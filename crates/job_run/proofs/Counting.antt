@@ -1,6 +1,8 @@
 -- What a step leaves of a job.
 use Rattle.std.proofs.Common.{◌≡◌, ◌≤◌, ◌⊎◌, inl, inr, ℕ, Bool, true, false, List, Option, Some, None, refl, sym, ap, ◌∙◌, subst, arith}
 use Rattle.std.specs.Option.{ForSome}
+use Rattle.mat_io.specs.Causes.{Rose}
+use Rattle.mat_model.specs.declared.answers.Device.{Device}
 use Rattle.mat_model.specs.declared.answers.Device.TheVariants as device
 use Rattle.mat_model.specs.declared.answers.FaultNote.{FaultNote}
 use Rattle.mat_model.specs.declared.entries.Outcome.{Outcome}
@@ -9,7 +11,7 @@ use Rattle.mat_tree.specs.declared.flat.Flat.{Flat}
 use Rattle.region_port.specs.States.{loan_region, state_region}
 use Rattle.region_port.specs.declared.port.Region.{Ghosts}
 use Rattle.region_port.specs.declared.states.ReadLoan.{ReadLoan}
-use Rattle.job_run.specs.Failures.{note_of}
+use Rattle.job_run.specs.Failures.{IsDiskFailure, note_of}
 use Rattle.job_run.specs.Jobs.{Counts, LoanCounts}
 use Rattle.job_run.specs.States.{failure_of, is_disk, region_of}
 use Rattle.job_run.specs.declared.states.Doing.{Doing}
@@ -63,6 +65,36 @@ loan_counted g (Some old) None note calls = calls
 loan_counted g (Some old) (Some new) note calls =
     disk_counted (g.fault_count (loan_region old)) (g.fault_count (loan_region new)) note calls.call.why.0
 
+-- the count of the device rose that a note is of
+note_rose : (at : Device) (before after : ℕ) (note : FaultNote) → note ≡ note_of at before after → Rose before after → Rose note.before note.after
+note_rose at before after note is rose = subst (λ (n : FaultNote). Rose n.before n.after) (sym is) rose
+
+disk_rose : (before after : ℕ) (note : FaultNote) → IsDiskFailure before after (Some (outcome.Fault note)) → Rose note.before note.after
+disk_rose before after note why = note_rose device.Disk before after note why.0 why.1
+
+loan_rose : {R : Type 0} (g : Ghosts R) (old new : Option (ReadLoan R)) (note : FaultNote) → CallsLoan g old new (Some (outcome.Fault note)) →
+    Rose note.before note.after
+loan_rose g None new note calls = elim calls as (λ _. Rose note.before note.after) [ ]
+loan_rose g (Some old) None note calls = elim calls as (λ _. Rose note.before note.after) [ ]
+loan_rose g (Some old) (Some new) note calls = disk_rose _ _ note calls.call.why
+
+asks_rose : {R : Type 0} {g : Ghosts R} (s : State R g) (old new : Told) (note : FaultNote) → StateAsks s old new (Some (outcome.Fault note)) →
+    Rose note.before note.after
+asks_rose {R} {g} (state.Wiping region) old new note asks = elim asks as (λ _. Rose note.before note.after) [ ]
+asks_rose {R} {g} (state.Emptying region) old new note asks = elim asks as (λ _. Rose note.before note.after) [ ]
+asks_rose {R} {g} (state.Clearing region order) old new note asks = elim asks as (λ _. Rose note.before note.after) [ ]
+asks_rose {R} {g} (state.Ended left ended) old new note asks = elim asks as (λ _. Rose note.before note.after) [ ]
+asks_rose {R} {g} state.Moving old new note asks = elim asks as (λ _. Rose note.before note.after) [ ]
+asks_rose {R} {g} (state.Making making) old new note asks = by making.doing asks
+  where
+    by : (one : Doing) → DoingAsks one old new (Some (outcome.Fault note)) → Rose note.before note.after
+    by (doing.Dir rel) asks = elim asks as (λ _. Rose note.before note.after) [ ]
+    by (doing.Link rel target) asks = elim asks as (λ _. Rose note.before note.after) [ ]
+    by doing.Sync asks = elim asks as (λ _. Rose note.before note.after) [ ]
+    by (doing.File filing (filling.Held at)) asks = elim asks as (λ _. Rose note.before note.after) [ ]
+    by (doing.File filing (filling.Got from at piece more)) asks = elim asks as (λ _. Rose note.before note.after) [ ]
+    by (doing.File filing (filling.Due from reading)) asks = note_rose device.Store old.faults new.faults note asks.why.0 asks.why.1
+
 -- a fault of the disk was counted in the step that met it
 pub counted_after : {R : Type 0} {g : Ghosts R} (place : List (List ℕ)) (goal : Option (List Flat)) (lent : Bool) (old new : State R g) (loan later : Option (ReadLoan R)) (told now : Told) →
     Stands place goal lent old →
@@ -79,12 +111,19 @@ counted_after {R} {g} place goal lent old (state.Ended left outcome.Wiped) loan 
 counted_after {R} {g} place goal lent old (state.Ended left (outcome.Missing digest)) loan later told now stands on_part on_loan on_store = tt
 counted_after {R} {g} place goal lent old (state.Ended left (outcome.Corrupt wanted found)) loan later told now stands on_part on_loan on_store = tt
 counted_after {R} {g} place goal lent old (state.Ended left outcome.NoMemory) loan later told now stands on_part on_loan on_store = tt
-counted_after {R} {g} place goal lent old (state.Ended left (outcome.Fault note)) loan later told now stands on_part on_loan on_store = λ disk.
-    by disk (state_spot old) refl
+counted_after {R} {g} place goal lent old (state.Ended left (outcome.Fault note)) loan later told now stands on_part on_loan on_store =
+    (rose (state_spot old) refl, λ disk. by disk (state_spot old) refl)
   where
+    before : (region : R) × (region_of old ≡ Some region)
+    before = has_region place goal lent old stands
+
+    rose : (spot : Spot) → state_spot old ≡ spot → Rose note.before note.after
+    rose part_call is = disk_rose _ _ note (on_part is before.0 before.1 (state_region left) refl).why
+    rose loan_call is = loan_rose g loan later note (on_loan is)
+    rose store_call is = asks_rose old told now note (on_store is)
+
     by : is_disk note.device ≡ true → (spot : Spot) → state_spot old ≡ spot → (note.after ≤ g.fault_count (state_region left)) ⊎ LoanCounts g later note.after
     by disk part_call is =
-        let before = has_region place goal lent old stands in
         let call = on_part is before.0 before.1 (state_region left) refl in
         inl (disk_counted (g.fault_count before.0) (g.fault_count (state_region left)) note call.why.0)
     by disk loan_call is = inr (loan_counted g loan later note (on_loan is))

@@ -2,6 +2,7 @@
 use Rattle.std.proofs.Common.{◌≡◌, ◌≤◌, ◌⊎◌, ◌||◌, inl, inr, nat_le, ℕ, Bool, true, false, not, List, Option, Some, None, refl, ap, subst, arith}
 use Rattle.std.proofs.lemmas.Bool.Decides.{nat_tests}
 use Rattle.std.specs.Option.{is_some}
+use Rattle.mat_io.specs.Causes.{risen}
 use Rattle.mat_model.specs.declared.entries.Outcome.{Outcome}
 use Rattle.mat_model.specs.declared.entries.Outcome.TheVariants as outcome
 use Rattle.mat_tree.specs.declared.flat.Flat.{Flat}
@@ -9,7 +10,7 @@ use Rattle.region_port.specs.States.{loan_region}
 use Rattle.region_port.specs.declared.port.Region.{Ghosts}
 use Rattle.region_port.specs.declared.states.Part.{Part}
 use Rattle.region_port.specs.declared.states.ReadLoan.{ReadLoan}
-use Rattle.job_run.specs.Done.{counts_fault, ends_task, leaves_part, loan_counted}
+use Rattle.job_run.specs.Done.{counts_fault, ends_task, has_count_risen, leaves_part, loan_counted}
 use Rattle.job_run.specs.Jobs.{IsCounted, LoanCounts}
 use Rattle.job_run.specs.States.{Ends, Leaves, is_disk}
 
@@ -67,4 +68,13 @@ counts_so {R} g (outcome.Fault note) count loan counts = by (is_disk note.device
 
     by : (b : Bool) → is_disk note.device ≡ b → not b || (nat_le note.after count || loan_counted g loan note.after) ≡ true
     by false is = refl
-    by true is = either (counts is)
+    by true is = either (counts.1 is)
+
+-- the count of its device rose
+pub rises_so : {R : Type 0} (g : Ghosts R) (ended : Outcome) (count : ℕ) (loan : Option (ReadLoan R)) → IsCounted g ended count loan → has_count_risen ended ≡ true
+rises_so {R} g outcome.Made count loan counts = refl
+rises_so {R} g outcome.Wiped count loan counts = refl
+rises_so {R} g (outcome.Missing digest) count loan counts = refl
+rises_so {R} g (outcome.Corrupt wanted found) count loan counts = refl
+rises_so {R} g (outcome.Fault note) count loan counts = le_true (risen note.before) note.after counts.0
+rises_so {R} g outcome.NoMemory count loan counts = refl

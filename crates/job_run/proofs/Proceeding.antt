@@ -1,5 +1,5 @@
 -- How the steps of a job lead along its course.
-use Rattle.std.proofs.Common.{◌≡◌, ◌⊎◌, ◌+◌, ◌-◌, ◌≤◌, ◌<◌, inl, inr, nat_le, ℕ, Bool, true, false, not, if◌then◌else◌, List, [], ◌∷◌, ◌++◌, length, take, drop, map, min, Option, Some, None, refl, sym, ap, ◌∙◌, subst, arith}
+use Rattle.std.proofs.Common.{◌≡◌, ◌⊎◌, ◌+◌, ◌-◌, ◌≤◌, ◌<◌, inl, inr, nat_le, ℕ, Bool, true, false, if◌then◌else◌, List, [], ◌∷◌, ◌++◌, length, map, min, Option, Some, None, refl, sym, ap, ◌∙◌, subst, arith}
 use Rattle.std.proofs.lemmas.Bool.Decides.{nat_tests}
 use Rattle.std.proofs.lemmas.List.{length-append}
 use Rattle.std.specs.Option.{ForSome, is_some}
@@ -8,12 +8,10 @@ use Rattle.std.specs.declared.alloc.Global.{Global}
 use Rattle.mat_digest.specs.Digests.{digest_of}
 use Rattle.mat_digest.specs.declared.digest.Digest.{Digest}
 use Rattle.mat_model.specs.declared.entries.Outcome.{Outcome}
-use Rattle.mat_tree.specs.Parts.{Part}
 use Rattle.mat_tree.specs.declared.flat.Flat.{Flat}
 use Rattle.mat_tree.specs.declared.flat.What.{What}
 use Rattle.mat_tree.specs.declared.flat.What.TheVariants as what
 use Rattle.region_port.specs.declared.port.Region.{Ghosts}
-use Rattle.region_port.specs.declared.states.ReadLoan.{ReadLoan}
 use Rattle.write_plan.specs.Plans.{act_of, act_what, supply_of}
 use Rattle.write_plan.specs.declared.act.Act.{Act}
 use Rattle.write_plan.specs.declared.act.Act.TheVariants as act
@@ -24,15 +22,12 @@ use Rattle.job_run.specs.Along.{IsAlong, ReadsItsFile}
 use Rattle.job_run.specs.Begun.{Begins, BeginsFrom, is_known, supply_from}
 use Rattle.job_run.specs.Courses.{Course, Duty, FirstMakes, Proceeds, ProceedsBy, RegionMakes, first_reads, duty_size, make_course, make_duties, reads_of, spot_of, to_put, to_sync, to_wipe}
 use Rattle.job_run.specs.CourseStages.{IsBegun, Leads, MakesPart, acts_duties, clearing_course, doing_duties, doing_from, doing_put, doing_reading, filling_from, filling_put, filling_reading, making_course, state_course, state_reading}
-use Rattle.job_run.specs.Failures.{Changes}
-use Rattle.job_run.specs.Growing.{with_piece}
 use Rattle.job_run.specs.Orders.{IsLeft, Remains, own_supply}
 use Rattle.job_run.specs.Pieces.{is_last, most_bytes, piece_size}
-use Rattle.job_run.specs.Readings.{HasGiven}
 use Rattle.job_run.specs.Seen.{seen}
 use Rattle.job_run.specs.Stages.{filing_node}
 use Rattle.job_run.specs.States.{failure_of, region_of}
-use Rattle.job_run.specs.Steps.{IsAt, Spot, Stands, doing_fetching, doing_spot, filling_fetching, filling_spot, loan_call, part_call, source_spot, state_fetching, state_spot, store_call}
+use Rattle.job_run.specs.Steps.{IsAt, Spot, Stands, doing_fetching, doing_spot, filling_fetching, filling_spot, loan_call, part_call, source_spot, state_fetching, state_spot}
 use Rattle.job_run.specs.declared.machine.Machine.{Machine}
 use Rattle.job_run.specs.declared.reading.Reading.{Reading}
 use Rattle.job_run.specs.declared.states.Doing.{Doing}

@@ -1,5 +1,5 @@
 -- The course of each stage of a job, and what its steps keep to.
-use Rattle.std.specs.Prelude.{◌≡◌, ◌⊎◌, ℕ, Bool, false, List, [], ◌∷◌, Option, Some, None}
+use Rattle.std.specs.Prelude.{◌≡◌, ◌⊎◌, ℕ, false, List, [], ◌∷◌, Option, Some, None}
 use Rattle.std.specs.Option.{ForSome}
 use Rattle.region_port.specs.declared.port.Region.{Ghosts}
 use Rattle.region_port.specs.declared.states.ReadLoan.{ReadLoan}

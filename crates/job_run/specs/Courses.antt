@@ -1,6 +1,5 @@
 -- What a job is still to do, and the call that each of its steps makes for it.
 use Rattle.std.specs.Prelude.{◌≡◌, ◌⊎◌, ◌+◌, ℕ, Bool, true, false, List, [], ◌∷◌, ◌++◌, length, map, Option, Some, None}
-use Rattle.std.specs.Option.{ForSome}
 use Rattle.mat_digest.specs.declared.digest.Digest.{Digest}
 use Rattle.mat_model.specs.declared.entries.Outcome.{Outcome}
 use Rattle.mat_tree.specs.Parts.{Part, folder, link, with_node}

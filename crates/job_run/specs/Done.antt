@@ -1,6 +1,7 @@
 -- What a job that has ended keeps.
 use Rattle.std.specs.Prelude.{◌||◌, nat_le, ℕ, Bool, true, false, not, List, Option, Some, None}
 use Rattle.std.specs.Option.{is_some}
+use Rattle.mat_io.specs.Causes.{risen}
 use Rattle.mat_model.specs.declared.entries.Outcome.{Outcome}
 use Rattle.mat_model.specs.declared.entries.Outcome.TheVariants as outcome
 use Rattle.mat_model.specs.declared.entries.Task.{Task}
@@ -68,3 +69,12 @@ counts_fault g (outcome.Missing digest) count loan = true
 counts_fault g (outcome.Corrupt wanted found) count loan = true
 counts_fault g (outcome.Fault note) count loan = not (is_disk note.device) || (nat_le note.after count || loan_counted g loan note.after)
 counts_fault g outcome.NoMemory count loan = true
+
+-- whether the count of a device that failed a job rose around the call
+abbrev pub has_count_risen : Outcome → Bool
+has_count_risen outcome.Made = true
+has_count_risen outcome.Wiped = true
+has_count_risen (outcome.Missing digest) = true
+has_count_risen (outcome.Corrupt wanted found) = true
+has_count_risen (outcome.Fault note) = nat_le (risen note.before) note.after
+has_count_risen outcome.NoMemory = true

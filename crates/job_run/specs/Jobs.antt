@@ -1,6 +1,7 @@
 -- What a job keeps between its steps.
 use Rattle.std.specs.Prelude.{◌≡◌, ◌≤◌, ◌⊎◌, ℕ, Bool, true, List, Option, Some, None}
 use Rattle.std.specs.Option.{is_some}
+use Rattle.mat_io.specs.Causes.{Rose}
 use Rattle.mat_model.specs.declared.entries.Card.{Card}
 use Rattle.mat_model.specs.declared.entries.Outcome.{Outcome}
 use Rattle.mat_model.specs.declared.entries.Outcome.TheVariants as outcome
@@ -84,13 +85,14 @@ abbrev pub LoanCounts : {R : Type 0} → Ghosts R → Option (ReadLoan R) → �
 LoanCounts g None count = ⊥
 LoanCounts g (Some loan) count = count ≤ g.fault_count (loan_region loan)
 
--- a fault of the disk was counted by one of a job's two regions
+-- the count of a device that failed rose around the call, and a fault of the disk was counted by one of a job's two regions
 abbrev pub IsCounted : {R : Type 0} → Ghosts R → Outcome → ℕ → Option (ReadLoan R) → Type 0
 IsCounted g outcome.Made count loan = Unit {0}
 IsCounted g outcome.Wiped count loan = Unit {0}
 IsCounted g (outcome.Missing digest) count loan = Unit {0}
 IsCounted g (outcome.Corrupt wanted found) count loan = Unit {0}
-IsCounted g (outcome.Fault note) count loan = is_disk note.device ≡ true → (note.after ≤ count) ⊎ LoanCounts g loan note.after
+IsCounted g (outcome.Fault note) count loan =
+    Rose note.before note.after × (is_disk note.device ≡ true → (note.after ≤ count) ⊎ LoanCounts g loan note.after)
 IsCounted g outcome.NoMemory count loan = Unit {0}
 
 abbrev pub Counts : {R : Type 0} {g : Ghosts R} → State R g → Option (ReadLoan R) → Type 0

@@ -1,5 +1,5 @@
 -- Which device the next step of a job calls, and what a stage keeps for a job's goal.
-use Rattle.std.specs.Prelude.{◌≡◌, ◌||◌, ℕ, Bool, true, false, List, [], Option, Some, None}
+use Rattle.std.specs.Prelude.{◌≡◌, ◌||◌, ℕ, Bool, List, [], Option, Some, None}
 use Rattle.std.specs.Option.{ForSome}
 use Rattle.mat_tree.specs.Parts.{bare}
 use Rattle.mat_tree.specs.Parts.{Part as TreePart}

@@ -5,7 +5,7 @@ ghost use Rattle.std.specs.Option.{is_some};
 ghost use Rattle.mat_tree.specs.Trees.{is_placed};
 ghost use Rattle.region_port.specs.States.{rough_region, state_region};
 ghost use Rattle.write_plan.specs.Plans.{plan_of};
-ghost use Rattle.job_run.specs.Done.{counts_fault, ends_task, is_make, leaves_part, task_path};
+ghost use Rattle.job_run.specs.Done.{counts_fault, ends_task, has_count_risen, is_make, leaves_part, task_path};
 ghost use Rattle.job_run.specs.Arming.{ArmsNext};
 ghost use Rattle.job_run.specs.Along.{CallsItsLoan, CallsItsPart, CallsItsStore, GoesAlong, IsAlong, MakesIts, ReadsOn};
 ghost use Rattle.job_run.specs.Asking.{asks_of};
@@ -56,6 +56,7 @@ pub struct Done<R: Region> {
     ghost ends: { ends_task (is_make card.task) outcome ≡ true },
     ghost leaves: { leaves_part outcome part ≡ true },
     ghost counted: { counts_fault ⟦<R as Region>⟧ outcome (R.fault_count (state_region part)) loan ≡ true },
+    ghost risen: { has_count_risen outcome ≡ true },
 }
 
 /// A job: it makes a tree at a path, or leaves nothing there.
