@@ -1,5 +1,5 @@
 -- What the devices tell once a job has begun, once it was refused, and once it has ended.
-use Rattle.std.specs.Prelude.{◌≡◌, ◌≤◌, [], ◌∷◌, ◌++◌, ℕ, List, Option, Some, None}
+use Rattle.std.specs.Prelude.{◌≡◌, ◌≤◌, [], ◌∷◌, ◌++◌, List, Option, Some, None}
 use Rattle.std.specs.Option.{ForSome, option_map}
 use Rattle.mat_tree.specs.Parts.{Part, without}
 use Rattle.mat_model.specs.declared.book.Row.{Row}

@@ -1,5 +1,5 @@
 -- What the state store tells after a call that removes rows.
-use Rattle.std.specs.Prelude.{◌≡◌, ◌≤◌, ℕ, Bool, true, false, List, [], ◌∷◌, Option, Some, None}
+use Rattle.std.specs.Prelude.{◌≡◌, ◌≤◌, ◌<◌, ◌^◌, ℕ, Bool, true, false, List, [], ◌∷◌, Option, Some, None}
 use Rattle.std.specs.Option.{option_map}
 use Rattle.mat_io.specs.Causes.{Rose}
 use Rattle.mat_model.specs.declared.answers.Device.TheVariants as device
@@ -32,10 +32,10 @@ has_wanted removal.Done = false
 has_wanted (removal.Failed note) = false
 has_wanted removal.NoMemory = true
 
--- a note, if there is one, is of a call of the state store between these counts
+-- a note, if there is one, is of a call of the state store between these counts, which are of 64 bits
 abbrev pub IsStoreNote : ℕ → ℕ → Option FaultNote → Type 0
 IsStoreNote before now None = Unit {0}
-IsStoreNote before now (Some note) = (note ≡ record { device = device.Keeper; before = before; after = now }) × Rose before now
+IsStoreNote before now (Some note) = (note ≡ record { device = device.Keeper; before = before; after = now }) × Rose before now × (now < 2 ^ 64)
 
 -- what it tells, by how the removal ended
 pub record HasRemoved (paths : List (List (List ℕ))) (said : Removal) (old new : ToldStore) : Type 0 where

@@ -1,5 +1,5 @@
 -- What the state store tells after a call that stores rows.
-use Rattle.std.specs.Prelude.{◌≡◌, ◌≤◌, ◌∷◌, [], ℕ, Bool, true, false, List, Option}
+use Rattle.std.specs.Prelude.{◌≡◌, ◌≤◌, ◌∷◌, [], Bool, true, false, List}
 use Rattle.std.specs.Option.{option_map}
 use Rattle.mat_model.specs.declared.answers.Recorded.{Recorded}
 use Rattle.mat_model.specs.declared.answers.Recorded.TheVariants as recorded
