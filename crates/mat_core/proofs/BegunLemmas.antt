@@ -20,6 +20,7 @@ use Rattle.model_laws.proofs.Coverings.{covering_claims}
 use Rattle.model_laws.proofs.WorkKept.{opening_work}
 use Rattle.gate_core.specs.Gates.{no_gate}
 use Rattle.row_book.specs.Stocks.{rows_of}
+use Rattle.write_plan.specs.declared.method.Method.TheVariants as method
 use Rattle.row_book.specs.declared.stock.Stock.{Stock}
 use Rattle.job_book.specs.Jobs.{jobs_of}
 use Rattle.job_book.specs.declared.running.Running.{Running}
@@ -28,6 +29,7 @@ use Rattle.mat_core.specs.Books.{IsStock, StandFor}
 use Rattle.mat_core.specs.Opened.{fetched}
 use Rattle.mat_core.specs.declared.opening.Books.{Books}
 use Rattle.mat_core.specs.declared.parts.Parts.{Parts}
+use Rattle.mat_core.proofs.RightLemmas.{unheld_right}
 
 -- the rows of those whose bytes the store has
 fetched_rows : (rows : List Row) → rows_of (map fetched rows) ≡ rows
@@ -102,7 +104,7 @@ begun_stands opening books parts are begun = record {
     stocks = λ stock among.
         let (row, within, same) = mapped_contains fetched opening.rows stock
         (subst (λ (s : List Stock). Contains s stock) (begun.rows ∙ are.rows) among) in
-        subst (IsStock (idle_work (opening_debris opening))) same (record { way = refl; mark = refl });
+        subst (IsStock (idle_work (opening_debris opening))) same (record { way = refl; mark = refl; right = unheld_right method.Fetch row.tree refl });
     jobs = ap jobs_of begun.jobs;
     cleaned = λ one among. absurd (nobody one (subst (λ (rs : List Running). Contains rs one) begun.jobs among));
     debris = ap (λ d. d.list) begun.debris ∙ are.debris;

@@ -37,7 +37,6 @@ use Rattle.mat_core.specs.Cores.{AreLimits}
 use Rattle.mat_core.specs.Replacing.{AreRuled}
 use Rattle.mat_core.specs.Served.{IsUnchanged, Serves, StandsStill, full_of, is_entered, is_quiet, is_want}
 use Rattle.mat_core.specs.declared.parts.Parts.{Parts}
-use Rattle.mat_core.proofs.ServeLemmas.{same_beside, same_parts}
 
 -- ---- replies
 

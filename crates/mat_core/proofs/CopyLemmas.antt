@@ -1,5 +1,5 @@
 -- What is declared at a source is declared elsewhere.
-use Rattle.std.proofs.Common.{◌≡◌, ◌+◌, zero, suc, nat_le, nat_lt, ℕ, Bool, true, false, ◌&&◌, cond, List, [], ◌∷◌, count_by, find, length, drop, Option, Some, None, refl, ◌∙◌, sym, ap, ap₂, arith}
+use Rattle.std.proofs.Common.{◌≡◌, ◌+◌, zero, suc, nat_le, nat_lt, ℕ, Bool, true, false, ◌&&◌, cond, List, [], ◌∷◌, count_by, find, length, drop, Option, Some, None, refl, ◌∙◌, sym, ap, ap₂, subst, arith}
 use Rattle.std.specs.List.{list_all}
 use Rattle.std.specs.Option.{option_and_then, option_map, option_map_or}
 use Rattle.std.proofs.lemmas.Bool.{and_from, and_parts, le-leb, leb-true}
@@ -28,6 +28,7 @@ use Rattle.row_book.specs.declared.stock.Stock.{Stock}
 use Rattle.row_book.specs.Stocks.{covers_stock, is_held_origin, row_of, rows_of}
 use Rattle.row_book.proofs.FindLemmas.{none_is}
 use Rattle.row_book.proofs.RowLemmas.{rows_found}
+use Rattle.job_run.specs.Orders.{is_right}
 use Rattle.mat_core.specs.Books.{StandFor, book_in, way_in}
 use Rattle.mat_core.specs.Copying.{copied_at, copied_in, copy_of, origin_in, with_copy}
 use Rattle.mat_core.specs.Declaring.{IsDeclaring, full_nodes}
@@ -36,6 +37,7 @@ use Rattle.mat_core.specs.Served.{Serves}
 use Rattle.mat_core.specs.declared.copying.Copied.{Copied}
 use Rattle.mat_core.specs.declared.parts.Parts.{Parts}
 use Rattle.mat_core.proofs.DeclareLemmas.{limit_serves}
+use Rattle.mat_core.proofs.RightLemmas.{copied_right}
 use Rattle.mat_core.proofs.ServeLemmas.{spent_same}
 
 -- the stock that is copied from, and the tree that its row has there
@@ -138,6 +140,10 @@ copy_declaring number command path source copy old live some placed = record {
       (ap is_held_way (are.stocks from.stock (found_contains (covers_stock source) old.rows from.stock from.found)).way ∙ by from.stock.method)
       ∙ sym (ap way_in from.way);
   keeps = λ row found. refl;
+  right = λ work are.
+      subst (λ (m : Method). list_all (is_right m) copy.tree ≡ true) (sym from.way)
+      (copied_right from.stock (drop (length from.stock.row.path) source) (drop (length from.stock.row.path) source) copy.tree from.has
+      (are.stocks from.stock (found_contains (covers_stock source) old.rows from.stock from.found)).right);
 }
   where
     from : IsFrom old.rows source copy

@@ -27,13 +27,15 @@ use Rattle.core_laws.proofs.PointMoves.{request_jobs}
 use Rattle.core_laws.proofs.RuleMoves.{asked_tied, request_disk}
 use Rattle.core_laws.proofs.StoreMoves.{entry_leaves}
 use Rattle.mat_core.specs.Books.{StandFor}
-use Rattle.mat_core.specs.Cores.{AreDevices, IsCore, IsSeen, IsSound, Seen, ToldDisk, ToldStore, each_stamp, point_in, seen_of}
+use Rattle.mat_core.specs.Cores.{AreDevices, IsCore, IsSeen, IsSound, Seen, each_stamp, point_in, seen_of}
+use Rattle.core_devices.specs.Told.{ToldDisk, ToldStore}
 use Rattle.mat_core.specs.Replacing.{AreRuled}
 use Rattle.mat_core.specs.Asks.{entry_of, request_asks}
 use Rattle.mat_core.specs.Rooms.{HasReserves, spent_in}
 use Rattle.mat_core.specs.Served.{AreSameDevices, StandsStill, is_entered, is_quiet}
 use Rattle.mat_core.specs.declared.parts.Parts.{Parts}
 use Rattle.mat_core.proofs.CallLemmas.{quiet_facts}
+use Rattle.mat_core.proofs.ReadyLemmas.{entered_ready, still_ready}
 use Rattle.mat_core.proofs.ServeLemmas.{spent_same}
 
 -- entries that are legal go on rightly
@@ -121,27 +123,31 @@ pub core_entered : {D K : Type 0} (told : D → ToldDisk) (stored : K → ToldSt
     IsCore told stored old → entry.event ≡ event.Asked request → IsLegalEntry old.base.limits (point_in (seen_of old)) entry →
     leaves_kept (served_at (point_in (seen_of old)) entry).reply ≡ true → note_of entry.reply ≡ None →
     seen_of new ≡ record (seen_of old) { history = old.history.items ++ entry ∷ [] } → StandFor new (after (point_in (seen_of old)) entry) →
-    HasReserves new → new.lost ≡ old.lost → IsCore told stored new
-core_entered {D} {K} told stored old new entry request core asks legal kept noted same stands reserves lost = record {
+    HasReserves new → new.lost ≡ old.lost → new.jobs ≡ old.jobs → IsCore told stored new
+core_entered {D} {K} told stored old new entry request core asks legal kept noted same stands reserves lost jobs = record {
   reserves = reserves;
   lost = lost ∙ core.lost ∙ ap (λ (s : Seen D K). s.base.opening.value.lost) (sym same);
   seen = subst (IsSeen told stored) (sym same) (seen_entered told stored (seen_of old) core.seen entry request asks legal kept noted);
   stands = subst (StandFor new)
       (sym (ap point_in same ∙ after_all-push (opened old.base.opening.value) old.history.items entry)) stands;
+  ready = entered_ready old new (point_in (seen_of old)) core.stands (ap (λ (s : Seen D K). s.base) same) jobs core.ready entry
+      (seen_point told stored (seen_of old) core.seen) stands;
 }
 
 -- and where nothing is entered
 pub core_stays : {D K : Type 0} (told : D → ToldDisk) (stored : K → ToldStore) (old new : Parts D K) → IsCore told stored old →
-    seen_of new ≡ seen_of old → StandsStill old new → HasReserves new → new.lost ≡ old.lost → IsCore told stored new
-core_stays {D} {K} told stored old new core same still reserves lost = record {
+    seen_of new ≡ seen_of old → StandsStill old new → HasReserves new → new.lost ≡ old.lost → new.jobs ≡ old.jobs → IsCore told stored new
+core_stays {D} {K} told stored old new core same still reserves lost jobs = record {
   reserves = reserves;
   lost = lost ∙ core.lost ∙ ap (λ (s : Seen D K). s.base.opening.value.lost) (sym same);
   seen = subst (IsSeen told stored) (sym same) core.seen;
   stands = subst (λ s. StandFor new (point_in s)) (sym same) (still (point_in (seen_of old)) core.stands);
+  ready = still_ready old new (point_in (seen_of old)) core.stands (ap (λ (s : Seen D K). s.base) same) jobs core.ready
+      (still (point_in (seen_of old)) core.stands);
 }
 
 -- what contracts see of some parts, by what they are
-seen_is : {D K : Type 0} (parts : Parts D K) (seen : Seen D K) → parts.base ≡ seen.base → parts.history.items ≡ seen.history → parts.disk ≡ seen.disk →
+pub seen_is : {D K : Type 0} (parts : Parts D K) (seen : Seen D K) → parts.base ≡ seen.base → parts.history.items ≡ seen.history → parts.disk ≡ seen.disk →
     parts.keeper ≡ seen.keeper → seen_of parts ≡ seen
 seen_is {D} {K} parts seen base history disk keeper =
     ap (λ b. record { base = b; history = parts.history.items; disk = parts.disk; keeper = parts.keeper }) base
@@ -156,7 +162,7 @@ module _ {D K : Type 0} (told : D → ToldDisk) (stored : K → ToldStore) (old 
     IsNumbered point (entry_of by new.moment request said) → nat_lt now end_of_time ≡ true →
     IsLegalEntry old.base.limits point (entry_of by new.moment request said))
     (history : new.history.items ≡ cond (is_entered said) (old.history.items ++ entry_of by new.moment request said ∷ []) old.history.items)
-    (devices : AreSameDevices old new) (unchanged : is_entered said ≡ false → StandsStill old new) (reserves : HasReserves new)
+    (devices : AreSameDevices old new) (unchanged : is_entered said ≡ false → StandsStill old new) (reserves : HasReserves new) (jobs : new.jobs ≡ old.jobs)
     (numbered : by.number ≡ count_by (is_of by.caller) old.history.items) (may : MayAsk (request_asks request))
     (within : nat_lt now end_of_time ≡ true) where
   -- a core keeps its rules through a request
@@ -172,11 +178,11 @@ module _ {D K : Type 0} (told : D → ToldDisk) (stored : K → ToldStore) (old 
             (seen_is new (record (seen_of old) { history = old.history.items ++ entry_of by new.moment request said ∷ [] }) devices.base
             (history ∙ ap (λ b. cond b (old.history.items ++ entry_of by new.moment request said ∷ []) old.history.items) is)
             devices.disk devices.keeper)
-            (stands is point core.stands (seen_point told stored (seen_of old) core.seen)) reserves devices.lost
+            (stands is point core.stands (seen_point told stored (seen_of old) core.seen)) reserves devices.lost jobs
         | false ↦ λ is. core_stays told stored old new core
             (seen_is new (seen_of old) devices.base
             (history ∙ ap (λ b. cond b (old.history.items ++ entry_of by new.moment request said ∷ []) old.history.items) is)
-            devices.disk devices.keeper) (unchanged is) reserves devices.lost
+            devices.disk devices.keeper) (unchanged is) reserves devices.lost jobs
       ] refl
 
   -- the moment of its entry is the book's

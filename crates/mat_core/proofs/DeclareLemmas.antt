@@ -1,10 +1,10 @@
 -- A request that declares a tree is served.
-use Rattle.std.proofs.Common.{◌≡◌, ◌<◌, ◌≤◌, ◌+◌, ◌*◌, ◌^◌, nat_lt, ℕ, Bool, true, false, not, ◌&&◌, ◌||◌, cond, List, [], ◌∷◌, map, filter, find, length, count_by, Contains, Option, Some, None, refl, ◌∙◌, sym, ap, ap₂, subst, arith}
-use Rattle.std.specs.List.{list_all, list_any, sum_by}
+use Rattle.std.proofs.Common.{◌≡◌, ◌<◌, ◌≤◌, ◌+◌, ◌^◌, nat_lt, ℕ, Bool, true, false, ◌&&◌, cond, List, [], ◌∷◌, map, filter, find, length, count_by, Contains, Option, Some, None, refl, ◌∙◌, sym, ap, ap₂, subst, arith}
+use Rattle.std.specs.List.{list_all, list_any}
 use Rattle.std.specs.Option.{option_map}
 use Rattle.std.proofs.lemmas.Bool.{and_parts, both_ways, le-ltb, lt-ltb, ltb-false, ltb-true}
 use Rattle.std.proofs.lemmas.List.{length-map}
-use Rattle.std.proofs.lemmas.List.Sums.{count_by-le-length, sum_by-cons}
+use Rattle.std.proofs.lemmas.List.Sums.{sum_by-cons}
 use Rattle.mat_path.proofs.Elements.{contains_first, contains_more, mapped_contains}
 use Rattle.mat_tree.specs.declared.flat.Flat.{Flat}
 use Rattle.mat_path.proofs.Overlaps.{overlap-refl}
@@ -27,7 +27,7 @@ use Rattle.mat_model.specs.declared.requests.Asked.{Asked}
 use Rattle.mat_model.specs.declared.requests.Asked.TheVariants as asked
 use Rattle.mat_model.specs.Declarations.{declare, declare_row, is_equal_row, new_row, replace_rows}
 use Rattle.mat_model.specs.Gate.{Served, is_live}
-use Rattle.mat_model.specs.History.{Point, nodes_of, says_declared}
+use Rattle.mat_model.specs.History.{Point, nodes_of}
 use Rattle.mat_model.specs.Kept.{KeptRow}
 use Rattle.mat_model.specs.Requests.{RequestContext, serve_now}
 use Rattle.mat_model.specs.Room.{entries_for, full_served, full_table, held_bytes, held_for, is_alone, is_declaration, row_paths, spent, waits_past}
@@ -38,7 +38,6 @@ use Rattle.model_laws.specs.KeptRules.{KeptAscend, path_of_kept}
 use Rattle.model_laws.specs.RoomRules.{IsRoomy}
 use Rattle.model_laws.specs.RowRules.{AreStampedBelow}
 use Rattle.model_laws.specs.TicketRules.{lost_below}
-use Rattle.model_laws.specs.WorkRules.{IsWork}
 use Rattle.model_laws.proofs.Apart.{apart_parts}
 use Rattle.model_laws.proofs.BelowLemmas.{replaced_answer}
 use Rattle.model_laws.proofs.RoomLists.{count_fewer}
@@ -56,12 +55,13 @@ use Rattle.mat_core.specs.Falling.{fall_of, is_unkept, is_unkept_at, one_if}
 use Rattle.mat_core.specs.Grants.{IsGranted, granted}
 use Rattle.mat_core.specs.Replacing.{AreRuled, IsReplaced, full_replaced, held_by}
 use Rattle.mat_core.specs.Rooms.{full_grant, spent_in}
-use Rattle.mat_core.specs.Served.{Serves, full_of, is_entered, is_quiet}
+use Rattle.mat_core.specs.Served.{Serves}
 use Rattle.mat_core.specs.declared.falling.Fall.{Fall}
 use Rattle.mat_core.specs.declared.parts.Parts.{Parts}
 use Rattle.mat_core.proofs.FallLemmas.{overlap_most, paths_replaced}
 use Rattle.mat_core.proofs.GrantLemmas.{held_used, paths_used, stamps_used, stock_used}
 use Rattle.mat_core.proofs.ReplaceLemmas.{ruled_book, rows_overlapping, stock_ways, top_same, work_replaced}
+use Rattle.mat_core.proofs.RightLemmas.{unheld_right}
 use Rattle.mat_core.proofs.ServeLemmas.{beside_reserves, own_stamps, same_beside, same_parts, same_reserves, spent_same, work_stays}
 
 no : {X : Type 0} → false ≡ true → X
@@ -518,10 +518,10 @@ module _ {D K : Type 0} (number command : ℕ) (path : List (List ℕ)) (tree : 
     unchanged = λ out. no (sym out);
     served = λ _ context. ap (λ b. record { reply = reply.Declared number; book = b }) (put_made mid made) ∙ sym (put_served context);
     work = λ _ work rules are.
-        let stands = work_replaced number command the_stock request old mid made refl refl work rules are (is.ways work are) in
+        let stands = work_replaced number command the_stock request old mid made refl refl work rules are (is.ways work are) (is.right work are) in
         record { stocks = stands.stocks; jobs = stands.jobs; cleaned = stands.cleaned; debris = stands.debris };
     kept = ap (λ k. k.marks) made.kept;
-    reserves = record { jobs = ap jobs_of made.jobs; debris = λ _. made.spare; places = ap (λ k. k.reserved) made.kept };
+    reserves = record { jobs = made.jobs; debris = λ _. made.spare; places = ap (λ k. k.reserved) made.kept };
     nodes = λ _. count ∙ ap₂ (λ (n m : ℕ). n + m) made.nodes (sym (is.nodes (reply.Declared number) refl));
     paths = λ _ kept marks counted.
         let whole = put_paths kept marks counted in
@@ -682,6 +682,7 @@ tree_declaring number command path tree old live = record {
   entries = λ said says. refl;
   ways = λ work are. refl;
   keeps = λ row found. refl;
+  right = λ work are. unheld_right method.Fetch tree refl;
 }
 
 -- and one by a command that isn't

@@ -1,30 +1,29 @@
 -- What a core keeps as jobs begin and end.
-use Rattle.std.proofs.Common.{◌≡◌, ℕ, ◌≤◌, Bool, true, false, inr, List, [], ◌∷◌, ◌++◌, Option, Some, None, refl, sym, ap, subst, ◌∙◌, le_refl, length}
+use Rattle.std.proofs.Common.{◌≡◌, ℕ, ◌≤◌, Bool, true, inr, List, [], ◌∷◌, ◌++◌, Option, Some, None, refl, sym, ap, subst, ◌∙◌, le_refl, length}
 use Rattle.std.specs.Option.{ForSome, option_map}
 use Rattle.mat_tree.specs.Parts.{Part, replaced, without}
 use Rattle.mat_model.specs.declared.answers.FaultNote.{FaultNote}
 use Rattle.mat_model.specs.declared.answers.Reply.{Reply}
 use Rattle.mat_model.specs.declared.answers.Reply.TheVariants as reply
-use Rattle.mat_model.specs.declared.book.Row.{Row}
 use Rattle.mat_model.specs.declared.entries.Entry.{Entry}
 use Rattle.mat_model.specs.declared.entries.Event.{Event}
 use Rattle.mat_model.specs.declared.entries.Event.TheVariants as event
 use Rattle.mat_model.specs.declared.entries.Outcome.{Outcome}
 use Rattle.mat_model.specs.declared.entries.Task.{Task}
 use Rattle.mat_model.specs.declared.entries.Task.TheVariants as task
-use Rattle.mat_model.specs.Gate.{Served}
 use Rattle.mat_model.specs.History.{Point, after, answer, next_number, opened, refusal_note}
 use Rattle.mat_model.specs.Kept.{overlaps_kept}
 use Rattle.mat_model.specs.Legal.{IsLegalEntry, IsReplied, IsRecorded, note_of, note_of_end}
-use Rattle.mat_model.specs.WorkState.{Job, Lent, WorkState, lent_for, path_of_task, running, started}
+use Rattle.mat_model.specs.WorkState.{Job, Lent, WorkState, path_of_task, running, started}
 use Rattle.model_laws.specs.PointRules.{IsPoint}
 use Rattle.model_laws.specs.RowRules.{served_at}
 use Rattle.model_laws.specs.StoredRules.{path_of_job}
 use Rattle.model_laws.specs.WorkRules.{claimed_by_part, loans_of}
-use Rattle.region_port.specs.Calls.{Paths, paths_outside, with_inner}
+use Rattle.region_port.specs.Calls.{Paths, with_inner}
 use Rattle.keep_port.specs.Rows.{remove_all}
-use Rattle.core_laws.specs.DiskRules.{IsDisk, IsTiedDisk, less_part, less_rough_part}
-use Rattle.core_laws.specs.Ends.{IsEndedPart, IsReadBack, IsReadPart, with_job, with_rough_job}
+use Rattle.keep_port.specs.declared.row.RawRow.{RawRow}
+use Rattle.core_laws.specs.DiskRules.{IsDisk, IsTiedDisk, less_part}
+use Rattle.core_laws.specs.Ends.{IsReadPart, with_job}
 use Rattle.core_laws.specs.Loans.{AreLoans, given_back}
 use Rattle.core_laws.specs.Places.{IsSameBelow}
 use Rattle.core_laws.specs.Stored.{AreDropped, HasDiskRisen, IsNoteWithin, IsStore, leaves_kept}
@@ -39,9 +38,10 @@ use Rattle.core_laws.proofs.RuleMoves.{same_disk, same_tied}
 use Rattle.core_laws.proofs.StoreMoves.{begin_store, entry_store}
 use Rattle.model_laws.proofs.LegalLemmas.{after_all-push, each-push}
 use Rattle.model_laws.proofs.PointLemmas.{entry_point}
-use Rattle.mat_core.specs.Cores.{AreDevices, IsSeen, IsSound, MaySpeak, MaySpeakFor, Seen, ToldDisk, ToldStore, each_stamp, point_in}
+use Rattle.mat_core.specs.Cores.{AreDevices, IsSeen, IsSound, MaySpeak, MaySpeakFor, Seen, each_stamp, point_in}
+use Rattle.core_devices.specs.Told.{ToldDisk, ToldStore}
 use Rattle.mat_core.proofs.CoreLemmas.{seen_point}
-use Rattle.mat_core.specs.Events.{AreSameParts, HasAgain, HasBack, HasLent, IsEndedTold, IsReadTold, read_at, with_read}
+use Rattle.core_devices.specs.Events.{AreSameParts, HasAgain, HasBack, HasLent, IsEndedTold, read_at, with_read}
 
 -- a fact of what is told, where it is told, is one of what comes of it
 for_mapped : {A B : Type 0} (P : A → Type 0) (Q : B → Type 0) (f : A → B) → ((a : A) → P a → Q (f a)) → (o : Option A) → ForSome o P →
@@ -60,7 +60,7 @@ begun_jobs number caller (task.Wipe path) point = refl
 module _ (identity first : ℕ) (check : Bool) (Sound : Type 0) (point : Point) (entry : Entry) (begun : Task) (old new : ToldDisk)
     (before later : ToldStore) (paths : List (List (List ℕ))) (rules : IsPoint point) (behind : IsPoint (after point entry))
     (begins : entry.event ≡ event.Begin begun) (starts : entry.reply ≡ reply.Started) (lends : HasLent begun (read_at point begun) old new)
-    (drops : AreDropped (overlaps_kept (path_of_task begun)) point.kept paths)
+    (drops : (rows : List RawRow) → IsStore identity point.kept rows → AreDropped (overlaps_kept (path_of_task begun)) point.kept paths)
     (removes : later.rows ≡ option_map (λ rows. remove_all rows paths) before.rows) (faults : before.faults ≤ later.faults)
     (devices : AreDevices identity first check Sound point old before) where
   begin_started : refusal_note (served_at point entry).reply ≡ None
@@ -98,7 +98,7 @@ module _ (identity first : ℕ) (check : Bool) (Sound : Type 0) (point : Point) 
         old.content (devices.sound sound));
     store = subst (λ o. ForSome o (IsStore identity (after point entry).kept)) (sym removes)
         (for_mapped (IsStore identity point.kept) (IsStore identity (after point entry).kept) (λ rows. remove_all rows paths)
-        (λ rows is. begin_store identity point entry begun rows paths begins begin_started drops is) before.rows devices.store);
+        (λ rows is. begin_store identity point entry begun rows paths begins begin_started (drops rows is) is) before.rows devices.store);
     counted = entry_counted point.history entry before.faults old.faults later.faults new.faults faults lends.faults
         (subst (λ (r : Reply). IsNoteWithin later.faults (note_of r)) (sym starts) tt)
         (subst (λ (e : Event). HasDiskRisen new.faults (note_of_end e)) (sym begins) tt) devices.counted;
@@ -267,7 +267,7 @@ module _ {D K : Type 0} (told : D → ToldDisk) (stored : K → ToldStore) (seen
     -- a core keeps its rules as a job begins
     pub seen_begun : (begun : Task) (disk : D) (keeper : K) (paths : List (List (List ℕ))) → entry.event ≡ event.Begin begun →
         entry.reply ≡ reply.Started → HasLent begun (read_at (point_in seen) begun) (told seen.disk) (told disk) →
-        AreDropped (overlaps_kept (path_of_task begun)) (point_in seen).kept paths →
+        ((rows : List RawRow) → IsStore seen.base.identity (point_in seen).kept rows → AreDropped (overlaps_kept (path_of_task begun)) (point_in seen).kept paths) →
         (stored keeper).rows ≡ option_map (λ rows. remove_all rows paths) (stored seen.keeper).rows →
         (stored seen.keeper).faults ≤ (stored keeper).faults →
         IsSeen told stored (record seen { history = seen.history ++ entry ∷ []; disk = disk; keeper = keeper })

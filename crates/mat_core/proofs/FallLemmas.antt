@@ -1,15 +1,15 @@
 -- Rows that a new one takes the place of: how they are gone through, how many paths have a row or a kept row then, and what remains of them on the disk.
-use Rattle.std.proofs.Common.{◌≡◌, ◌<◌, ◌≤◌, ◌+◌, ◌⊎◌, ℕ, Bool, true, false, not, ◌&&◌, ◌||◌, cond, List, [], ◌∷◌, map, filter, find, length, count_by, Contains, Option, Some, None, inl, inr, refl, ◌∙◌, sym, ap, ap₂, subst, arith}
-use Rattle.std.specs.List.{list_all, list_any, sum_by}
-use Rattle.std.specs.Option.{is_none, option_map}
-use Rattle.std.proofs.lemmas.Bool.{and_from, and_parts, both_ways, not-true}
+use Rattle.std.proofs.Common.{◌≡◌, ◌≤◌, ◌+◌, ℕ, Bool, true, false, not, ◌&&◌, ◌||◌, cond, List, [], ◌∷◌, map, filter, find, length, count_by, Contains, Option, Some, None, refl, ◌∙◌, sym, ap, ap₂, subst, arith}
+use Rattle.std.specs.List.{list_all, list_any}
+use Rattle.std.specs.Option.{is_none}
+use Rattle.std.proofs.lemmas.Bool.{and_parts, both_ways, not-true}
 use Rattle.std.proofs.lemmas.List.{length-map}
 use Rattle.std.proofs.lemmas.List.Sums.{count_by-le-length, length-filter, sum_by-cons}
 use Rattle.std.proofs.lemmas.List.Filters.{length-filter_both}
-use Rattle.mat_path.proofs.Elements.{contains_cases, contains_first, contains_map, contains_more, filtered_contains, none_passes}
+use Rattle.mat_path.proofs.Elements.{contains_first, contains_map, contains_more, filtered_contains, none_passes}
 use Rattle.mat_path.proofs.Overlaps.{overlap-refl}
-use Rattle.mat_path.proofs.SameNames.{same_names-eq, same_names-refl, same_names-sym}
-use Rattle.mat_path.specs.Names.{is_prefix, overlap, same_names}
+use Rattle.mat_path.proofs.SameNames.{same_names-eq}
+use Rattle.mat_path.specs.Names.{overlap, same_names}
 use Rattle.mat_tree.specs.Trees.{ascends_by, is_after_by}
 use Rattle.mat_model.specs.declared.book.Row.{Row}
 use Rattle.mat_model.specs.Kept.{KeptRow}
@@ -18,16 +18,15 @@ use Rattle.mat_model.specs.Rows.{are_apart, comes_before, is_apart, is_at_path, 
 use Rattle.mat_model.specs.WorkState.{Debris, Job, WorkState, add_debris, is_dirty, is_lent, leaves_debris, put_debris}
 use Rattle.model_laws.specs.KeptRules.{KeptAscend, path_of_kept}
 use Rattle.model_laws.proofs.Apart.{apart_parts}
-use Rattle.model_laws.proofs.BooksLists.{any_contains, contains_any}
-use Rattle.model_laws.proofs.Clear.{at_path_overlaps}
+use Rattle.model_laws.proofs.BooksLists.{any_contains}
 use Rattle.model_laws.proofs.Elements.{contains_all}
 use Rattle.debris_list.proofs.Order.{before_asym, before_irrefl, before_trans}
 use Rattle.debris_list.specs.Pieces.{overlaps_debris}
 use Rattle.kept_book.specs.declared.mark.Mark.{Mark}
-use Rattle.kept_book.specs.Marks.{is_mark_at, mark_of, use_of}
+use Rattle.kept_book.specs.Marks.{is_mark_at, mark_of}
 use Rattle.row_book.proofs.HeldLemmas.{held_sides}
 use Rattle.row_book.specs.declared.stock.Stock.{Stock}
-use Rattle.row_book.specs.Stocks.{held_bytes, held_of, is_clear_stock, is_next_overlap, is_past, overlaps_stock, row_of, rows_of}
+use Rattle.row_book.specs.Stocks.{held_bytes, held_of, is_next_overlap, is_past, overlaps_stock, row_of, rows_of}
 use Rattle.mat_core.specs.Falling.{MayAllRemain, MayRemain, fall_of, is_remaining, is_unkept, is_unkept_at, one_if, with_remain, with_remains}
 use Rattle.mat_core.specs.declared.falling.Fall.{Fall}
 
@@ -424,7 +423,7 @@ remains_added jobs work (first ∷ stocks) debris same marks =
     by true later = later (put_debris (record { path = first.row.path; condemned = false }) debris)
     by false later = later debris
 
-any_put_debris : (t : Debris → Bool) (new : Debris) (debris : List Debris) → list_any t (put_debris new debris) ≡ (t new || list_any t debris)
+pub any_put_debris : (t : Debris → Bool) (new : Debris) (debris : List Debris) → list_any t (put_debris new debris) ≡ (t new || list_any t debris)
 any_put_debris t new [] = refl
 any_put_debris t new (first ∷ debris) =
     elim (comes_before new.path first.path) as

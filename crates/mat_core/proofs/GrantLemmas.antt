@@ -83,7 +83,7 @@ stamps_used place moment rows row among =
 pub stock_used : (place : List (List ℕ)) (moment : ℕ) (work : WorkState) (stock : Stock) → IsStock work stock → IsStock work (used_stock place moment stock)
 stock_used place moment work stock is =
     elim (stock_at place stock) as (λ b. IsStock work (cond b (with_use moment stock) stock))
-    [ true ↦ record { way = is.way; mark = is.mark } | false ↦ is ]
+    [ true ↦ record { way = is.way; mark = is.mark; right = is.right } | false ↦ is ]
 
 -- ---- replies
 

@@ -1,10 +1,10 @@
 -- Rows that are copied one after the other.
-use Rattle.std.proofs.Common.{◌≡◌, ℕ, ◌+◌, ◌-◌, ◌<◌, zero, suc, drop, length-append, Bool, true, false, not, ◌&&◌, List, [], ◌∷◌, ◌++◌, Option, Some, None, cond, refl, sym, ap, ap₂, subst, ◌∙◌, map, filter, find, length, slice_get, arith}
+use Rattle.std.proofs.Common.{◌≡◌, ℕ, ◌+◌, ◌-◌, ◌<◌, zero, suc, drop, length-append, true, false, not, List, [], ◌∷◌, ◌++◌, Option, Some, None, cond, refl, sym, ap, ap₂, subst, ◌∙◌, filter, find, length, slice_get, arith}
 use Rattle.std.specs.List.{list_all}
 use Rattle.std.proofs.lemmas.List.{append-nil, append_assoc}
 use Rattle.std.proofs.lemmas.Option.{slice_get_within}
 use Rattle.std.specs.Option.{option_map}
-use Rattle.std.proofs.lemmas.Bool.{and_from, and_parts, both_ways}
+use Rattle.std.proofs.lemmas.Bool.{and_from, and_parts}
 use Rattle.mat_path.proofs.Elements.{filter_all}
 use Rattle.mat_path.specs.Names.{overlap}
 use Rattle.mat_model.specs.declared.book.Row.{Row}
@@ -16,7 +16,7 @@ use Rattle.holder_book.specs.Holds.{both}
 use Rattle.mat_model.specs.Gate.{Gate}
 use Rattle.mat_model.specs.declared.book.Hold.{Hold}
 use Rattle.mat_model.specs.declared.book.Waiter.{Waiter}
-use Rattle.row_book.specs.Stocks.{is_past, row_of, rows_of}
+use Rattle.row_book.specs.Stocks.{is_past, rows_of}
 use Rattle.row_book.specs.declared.stock.Stock.{Stock}
 
 -- of stocks that are apart, all behind one come behind what is in front of it

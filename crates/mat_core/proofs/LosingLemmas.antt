@@ -1,11 +1,10 @@
 -- Tickets that lose their row, looked at in order of number.
-use Rattle.std.proofs.Common.{◌≡◌, ◌<◌, ◌≤◌, ◌+◌, ◌==◌, ℕ, nat_le, nat_lt, Bool, true, false, not, ◌&&◌, cond, List, [], ◌∷◌, map, find, Contains, Option, Some, None, inl, inr, refl, ◌∙◌, sym, ap, subst, arith}
+use Rattle.std.proofs.Common.{◌≡◌, ◌<◌, ◌≤◌, ◌+◌, ◌==◌, ℕ, nat_lt, Bool, true, false, not, ◌&&◌, cond, List, [], ◌∷◌, map, find, Contains, Option, Some, None, inl, inr, refl, ◌∙◌, sym, ap, subst, arith}
 use Rattle.std.specs.List.{list_all, list_any}
 use Rattle.std.specs.Option.{option_map}
-use Rattle.std.proofs.lemmas.Bool.{and_from, and_parts, both_ways, eq-eqb, eqb-true, le-leb, lt-ltb, ltb-false, ltb-true, leb-true, ne_eqb}
+use Rattle.std.proofs.lemmas.Bool.{and_from, and_parts, both_ways, eq-eqb, eqb-true, le-leb, le-ltb, lt-ltb, ltb-false, ltb-true, leb-true, ne_eqb}
 use Rattle.mat_path.proofs.Elements.{contains_cases, contains_first, contains_map, contains_more}
 use Rattle.mat_path.specs.Names.{is_prefix}
-use Rattle.mat_model.specs.declared.answers.Answer.{Answer}
 use Rattle.mat_model.specs.declared.answers.Answer.TheVariants as answer
 use Rattle.mat_model.specs.declared.book.Row.{Row}
 use Rattle.mat_model.specs.declared.book.Ticket.{Ticket}
@@ -16,7 +15,7 @@ use Rattle.model_laws.specs.TicketRules.{lost_below}
 use Rattle.model_laws.proofs.BelowLemmas.{map_alike}
 use Rattle.model_laws.proofs.BooksLists.{contains_any}
 use Rattle.model_laws.proofs.Elements.{contains_all, found_contains}
-use Rattle.ticket_book.specs.Asked.{answered_if, asks_below, has_number, is_due, is_earlier, is_from, lowest}
+use Rattle.ticket_book.specs.Asked.{answered_if, asks_below, asks_below_from, has_number, is_due, is_earlier, is_from, lowest}
 use Rattle.mat_core.specs.Losing.{is_lost_to, lost_at, lost_before}
 
 -- ---- lists
@@ -125,14 +124,19 @@ lowest_none test tickets is = by (find (is_due test) tickets) refl is
     by None found told = found
     by (Some ticket) found told = absurd cc
 
--- a ticket from a number on that isn't due isn't open
-not_open : (from : ℕ) (ticket : Ticket) → is_due (is_from from) ticket ≡ false → from ≤ ticket.number → is_open ticket ≡ false
-not_open from ticket off least =
-    by (is_open ticket) (sym (ap (λ b. is_open ticket && b) (le-leb from ticket.number least)) ∙ off)
-  where
-    by : (b : Bool) → (b && true) ≡ false → b ≡ false
-    by true is = absurd cc
-    by false is = refl
+-- a ticket whose number isn't below one is due from it on where it is due
+not_due : (top : List (List ℕ)) (from : ℕ) (ticket : Ticket) → is_due (asks_below_from top from) ticket ≡ false → from ≤ ticket.number →
+    is_due (asks_below top) ticket ≡ false
+not_due top from ticket off least = sym (ap (λ b. is_open ticket && (b && asks_below top ticket)) (le-leb from ticket.number least)) ∙ off
+
+-- the lowest number from one on isn't below it
+pub lowest_from : (top : List (List ℕ)) (from : ℕ) (tickets : List Ticket) (number : ℕ) → lowest (asks_below_from top from) tickets ≡ Some number →
+    from ≤ number
+lowest_from top from tickets number is =
+    let (found, there, same) = lowest_found (asks_below_from top from) tickets number is in
+    let due = and_parts (is_open found) (asks_below_from top from found) (found_due (is_due (asks_below_from top from)) tickets found there) in
+    let parts = and_parts (is_from from found) (asks_below top found) due.1 in
+    let more = leb-true from found.number parts.0 in omega (arith, more, same)
 
 -- ---- what is answered
 
@@ -144,36 +148,16 @@ lost_number top row number ticket =
     [ true ↦ refl | false ↦ refl ]
 
 -- and one that isn't open, or asks for a path elsewhere, stays
-shut_stays : (top : List (List ℕ)) (row : Row) (number : ℕ) (ticket : Ticket) → is_open ticket ≡ false → lost_below top row number ticket ≡ ticket
-shut_stays top row number ticket shut =
-    ap (λ b. cond ((b && is_prefix top ticket.asked) && not (covers ticket.asked row)) (with_answer number answer.Undeclared ticket) ticket) shut
-
 aside_stays : (top : List (List ℕ)) (row : Row) (number : ℕ) (ticket : Ticket) → is_due (asks_below top) ticket ≡ false →
     lost_below top row number ticket ≡ ticket
 aside_stays top row number ticket aside =
     ap (λ b. cond (b && not (covers ticket.asked row)) (with_answer number answer.Undeclared ticket) ticket) aside
 
--- before the lowest number of those that ask for a path at or below one, nothing is answered
-pub lost_start : (top : List (List ℕ)) (row : Row) (number from : ℕ) (tickets : List Ticket) → are_ascending (map number_of tickets) ≡ true →
-    lowest (asks_below top) tickets ≡ Some from → tickets ≡ map (lost_before from top row number) tickets
-lost_start top row number from tickets up is =
-    let (found, there, same) = lowest_found (asks_below top) tickets from is in
-    sym (map_same (lost_before from top row number) tickets
-    (λ other among.
-    elim (nat_lt other.number from) as
-    (λ b. nat_lt other.number from ≡ b → cond b (lost_below top row number other) other ≡ other) [
-      | true ↦ λ early.
-          let less = ltb-true other.number from early in
-          aside_stays top row number other (not_before (is_due (asks_below top)) tickets found other up there among (omega (arith, less, same)))
-      | false ↦ λ late. refl
-    ] refl))
-
--- and where none does, nothing is
-pub lost_none : (top : List (List ℕ)) (row : Row) (number : ℕ) (tickets : List Ticket) → lowest (asks_below top) tickets ≡ None →
-    tickets ≡ map (lost_below top row number) tickets
-lost_none top row number tickets is =
-    sym (map_same (lost_below top row number) tickets
-    (λ other among. aside_stays top row number other (none_due (is_due (asks_below top)) tickets other (lowest_none (asks_below top) tickets is) among)))
+-- none has a number below 0
+pub lost_start : (top : List (List ℕ)) (row : Row) (number : ℕ) (tickets : List Ticket) → tickets ≡ map (lost_before 0 top row number) tickets
+lost_start top row number tickets =
+    sym (map_same (lost_before 0 top row number) tickets
+    (λ other among. ap (λ b. cond b (lost_below top row number other) other) (le-ltb other.number 0 (omega arith))))
 
 -- the ticket of a number is answered, where it is lost, or isn't
 pub lost_one : (top : List (List ℕ)) (row : Row) (number ticket : ℕ) (found : Ticket) (tickets : List Ticket) →
@@ -225,9 +209,9 @@ lost_absent top row number ticket tickets is =
     sym (map_same (lost_at ticket top row number) tickets
     (λ other among. ap (λ b. cond b (lost_below top row number other) other) (none_due (has_number ticket) tickets other is among)))
 
--- a ticket with the lowest number from one on is answered, and then those before the next number are
+-- the ticket at or below a path with the lowest number from one on is answered, and then those before the next number are
 pub lost_step : (top : List (List ℕ)) (row : Row) (number from ticket : ℕ) (old now new : List Ticket) → are_ascending (map number_of now) ≡ true →
-    now ≡ map (lost_before from top row number) old → lowest (is_from from) now ≡ Some ticket → new ≡ map (lost_at ticket top row number) now →
+    now ≡ map (lost_before from top row number) old → lowest (asks_below_from top from) now ≡ Some ticket → new ≡ map (lost_at ticket top row number) now →
     new ≡ map (lost_before (ticket + 1) top row number) old
 lost_step top row number from ticket old now new up so is then_new =
     then_new ∙ ap (map (lost_at ticket top row number)) so ∙ map_twice (lost_at ticket top row number) (lost_before from top row number) old
@@ -237,10 +221,7 @@ lost_step top row number from ticket old now new up so is then_new =
     lost other = lost_below top row number other
 
     least : from ≤ ticket
-    least =
-        let (found, there, same) = lowest_found (is_from from) now ticket is in
-        let due = and_parts (is_open found) (is_from from found) (found_due (is_due (is_from from)) now found there) in
-        let more = leb-true from found.number due.1 in omega (arith, more, same)
+    least = lowest_from top from now ticket is
 
     each : (other : Ticket) → Contains old other →
         lost_at ticket top row number (lost_before from top row number other) ≡ lost_before (ticket + 1) top row number other
@@ -255,9 +236,9 @@ lost_step top row number from ticket old now new up so is then_new =
 
         before : nat_lt other.number from ≡ false → other.number < ticket → lost other ≡ other
         before late less =
-            let (found, here, same) = lowest_found (is_from from) now ticket is in
-            let off = not_before (is_due (is_from from)) now found other up here (there late) (omega (arith, less, same)) in
-            shut_stays top row number other (not_open from other off (ltb-false other.number from late))
+            let (found, here, same) = lowest_found (asks_below_from top from) now ticket is in
+            let off = not_before (is_due (asks_below_from top from)) now found other up here (there late) (omega (arith, less, same)) in
+            aside_stays top row number other (not_due top from other off (ltb-false other.number from late))
 
         by_next : (b c : Bool) → nat_lt other.number from ≡ false → (other.number == ticket) ≡ b → nat_lt other.number (ticket + 1) ≡ c →
             cond b (lost other) other ≡ cond c (lost other) other
@@ -291,9 +272,9 @@ lost_step top row number from ticket old now new up so is then_new =
             ∙ sym (ap (λ c. cond c (lost other) other) (lt-ltb other.number (ticket + 1) (omega (arith, less, least))))
         by false late = by_next (other.number == ticket) (nat_lt other.number (ticket + 1)) late refl refl
 
--- where none is open from a number on, all were answered that are lost
+-- where none is open at or below the path from a number on, all were answered that are lost
 pub lost_end : (top : List (List ℕ)) (row : Row) (number from : ℕ) (old now : List Ticket) → now ≡ map (lost_before from top row number) old →
-    lowest (is_from from) now ≡ None → now ≡ map (lost_below top row number) old
+    lowest (asks_below_from top from) now ≡ None → now ≡ map (lost_below top row number) old
 lost_end top row number from old now so is =
     so ∙ map_alike (lost_before from top row number) (lost_below top row number) old each
   where
@@ -308,8 +289,8 @@ lost_end top row number from old now so is =
             (subst (λ (t : Ticket). Contains (map (lost_before from top row number) old) t)
             (ap (λ c. cond c (lost_below top row number other) other) late)
             (contains_map (lost_before from top row number) old other among)) in
-            sym (shut_stays top row number other
-            (not_open from other (none_due (is_due (is_from from)) now other (lowest_none (is_from from) now is) there) (ltb-false other.number from late)))
+            let off = none_due (is_due (asks_below_from top from)) now other (lowest_none (asks_below_from top from) now is) there in
+            sym (aside_stays top row number other (not_due top from other off (ltb-false other.number from late)))
 
 -- ---- numbers
 
@@ -322,19 +303,13 @@ lowest_due test tickets number is =
     (and_from (is_open found) (has_number number found) (and_parts (is_open found) (test found) (found_due (is_due test) tickets found there)).0
     (eq-eqb found.number number same))
 
--- it is below a number that all are below, and not below one that none that is due is
+-- it is below a number that all are below
 pub lowest_earlier : (test : Ticket → Bool) (tickets : List Ticket) (number next : ℕ) → list_all (is_earlier next) tickets ≡ true →
     lowest test tickets ≡ Some number → number < next
 lowest_earlier test tickets number next all is =
     let (found, there, same) = lowest_found test tickets number is in
     let less = ltb-true found.number next (contains_all (is_earlier next) tickets found all (found_contains (is_due test) tickets found there)) in
     omega (arith, less, same)
-
-pub lowest_from : (from : ℕ) (tickets : List Ticket) (number : ℕ) → lowest (is_from from) tickets ≡ Some number → from ≤ number
-lowest_from from tickets number is =
-    let (found, there, same) = lowest_found (is_from from) tickets number is in
-    let due = and_parts (is_open found) (is_from from found) (found_due (is_due (is_from from)) tickets found there) in
-    let more = leb-true from found.number due.1 in omega (arith, more, same)
 
 -- answers leave the numbers
 pub earlier_lost : (next ticket : ℕ) (top : List (List ℕ)) (row : Row) (number : ℕ) (tickets : List Ticket) → list_all (is_earlier next) tickets ≡ true →

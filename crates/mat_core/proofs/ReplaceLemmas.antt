@@ -1,14 +1,13 @@
 -- A new row that takes the place of those that overlap its path: the tickets that are answered, the rows that are gone, and the work state.
-use Rattle.std.proofs.Common.{◌≡◌, ◌<◌, ◌≤◌, ◌+◌, ◌⊎◌, ◌==◌, ℕ, Bool, true, false, not, ◌&&◌, ◌||◌, cond, List, [], ◌∷◌, map, filter, find, length, count_by, Contains, Option, Some, None, inl, inr, refl, ◌∙◌, sym, ap, ap₂, subst, arith}
-use Rattle.std.specs.List.{All, list_all, list_any}
-use Rattle.std.specs.Option.{option_map, option_map_or}
-use Rattle.std.proofs.lemmas.Bool.{and_from, and_parts, both_ways, eq-eqb, eqb-true, ne_eqb, not-true, or_right}
+use Rattle.std.proofs.Common.{◌≡◌, ◌<◌, ◌⊎◌, ℕ, Bool, true, false, not, ◌&&◌, ◌||◌, cond, List, [], ◌∷◌, filter, find, Contains, Option, Some, None, inl, inr, refl, ◌∙◌, sym, ap, ap₂, subst, arith}
+use Rattle.std.specs.List.{list_all, list_any}
+use Rattle.std.specs.Option.{option_map_or}
+use Rattle.std.proofs.lemmas.Bool.{and_parts, both_ways, eq-eqb, eqb-true, ne_eqb, not-true, or_right}
 use Rattle.std.proofs.lemmas.List.Elements.{All-contains}
-use Rattle.mat_path.proofs.Elements.{contains_cases, contains_filter, contains_first, contains_map, contains_more, filtered_contains, mapped_contains, none_passes}
+use Rattle.mat_path.proofs.Elements.{contains_cases, contains_filter, contains_first, contains_map, contains_more, filtered_contains, none_passes}
 use Rattle.mat_path.proofs.PathLemmas.{overlap_comm, prefix-trans}
 use Rattle.mat_path.proofs.SameNames.{same_names-eq, same_names-refl}
 use Rattle.mat_path.specs.Names.{is_prefix, overlap, same_names}
-use Rattle.mat_model.specs.declared.answers.Reply.{Reply}
 use Rattle.mat_model.specs.declared.answers.Reply.TheVariants as reply
 use Rattle.mat_model.specs.declared.book.Book.{Book}
 use Rattle.mat_model.specs.declared.book.Row.{Row}
@@ -17,7 +16,7 @@ use Rattle.mat_model.specs.Books.{IsBook}
 use Rattle.mat_model.specs.History.{next_number}
 use Rattle.mat_model.specs.Openings.{path_of_row}
 use Rattle.mat_model.specs.Rows.{are_apart, comes_before, is_apart, is_at_path, is_clear_of, overlaps_row, put_row}
-use Rattle.mat_model.specs.WorkState.{Debris, Job, Way, WayOf, WorkState, add_debris, cleans_all, condemned_all, has_stamp, is_dirty, is_gone, is_kept_dirty, is_lent, is_way_of, leaves_debris, lies_at, removed_rows, store, way_declared, way_of, way_within, without_removed, work_asked}
+use Rattle.mat_model.specs.WorkState.{Debris, Job, Way, WayOf, WorkState, add_debris, cleans_all, condemned_all, has_stamp, is_dirty, is_gone, is_kept_dirty, is_lent, is_way_of, leaves_debris, removed_rows, store, way_declared, way_of, way_within, without_removed, work_asked}
 use Rattle.model_laws.specs.RowRules.{AreStampedBelow}
 use Rattle.model_laws.specs.TicketRules.{is_row_above, top_of}
 use Rattle.model_laws.specs.WorkRules.{IsWork}
@@ -26,17 +25,17 @@ use Rattle.model_laws.proofs.BelowLemmas.{same_test}
 use Rattle.model_laws.proofs.BooksLists.{any_contains, contains_any}
 use Rattle.model_laws.proofs.Clear.{at_path_overlaps}
 use Rattle.model_laws.proofs.ClaimLemmas.{leaves_clear_debris}
-use Rattle.model_laws.proofs.Elements.{contains_all}
 use Rattle.model_laws.proofs.StampLemmas.{one_stamp}
 use Rattle.model_laws.proofs.WorkBase.{lying_row}
 use Rattle.debris_list.specs.Pieces.{overlaps_debris}
 use Rattle.job_book.specs.Jobs.{jobs_of}
+use Rattle.job_run.specs.Orders.{is_right}
 use Rattle.row_book.specs.declared.stock.Stock.{Stock}
 use Rattle.row_book.specs.Stocks.{is_clear_stock, overlaps_stock, put_stock, row_of, rows_of, stock_at}
 use Rattle.row_book.proofs.HeldLemmas.{apart_left, rows_placed}
 use Rattle.row_book.proofs.RowLemmas.{rows_left}
-use Rattle.mat_core.specs.Books.{AreWork, IsStock, book_in, way_in}
-use Rattle.mat_core.specs.Falling.{MayAllRemain, MayRemain, is_remaining, with_remains}
+use Rattle.mat_core.specs.Books.{AreWork, book_in, way_in}
+use Rattle.mat_core.specs.Falling.{MayAllRemain, with_remains}
 use Rattle.mat_core.specs.Replacing.{AreRuled, IsReplaced, top_in}
 use Rattle.mat_core.specs.declared.parts.Parts.{Parts}
 use Rattle.mat_core.proofs.FallLemmas.{all_remain, any_put, filter_alike, remains_added}
@@ -236,9 +235,20 @@ stock_ways number stock one old work way stamp stamped are same among =
           way_other number one.row.stamp way work.ways (λ same_stamp. omega (arith, less, same_stamp)) ∙ (are.stocks one there).way
     ]
 
+-- and the bytes that are held for it have the digest of its file
+stock_rights : {D K : Type 0} (stock one : Stock) (old : Parts D K) (work : WorkState) → AreWork old work →
+    list_all (is_right stock.method) stock.row.tree ≡ true → Contains (put_stock stock (filter (is_clear_stock stock.row.path) old.rows)) one →
+    list_all (is_right one.method) one.row.tree ≡ true
+stock_rights stock one old work are right among =
+    elim (stocks_put stock (filter (is_clear_stock stock.row.path) old.rows) one among) [
+      | inl here ↦ subst (λ (s : Stock). list_all (is_right s.method) s.row.tree ≡ true) here right
+      | inr more ↦ (are.stocks one (filtered_contains (is_clear_stock stock.row.path) old.rows one more).0).right
+    ]
+
 module _ {D K : Type 0} (number command : ℕ) (stock : Stock) (request : Asked) (old new : Parts D K) (is : IsReplaced number command stock old new)
     (stamped : stock.row.stamp ≡ number) (clean : stock.dirty ≡ false) (work : WorkState) (rules : IsWork number (book_in old).rows work)
-    (are : AreWork old work) (way : way_declared request (book_in old).rows work.ways ≡ way_in stock.method) where
+    (are : AreWork old work) (way : way_declared request (book_in old).rows work.ways ≡ way_in stock.method)
+    (right : list_all (is_right stock.method) stock.row.tree ≡ true) where
   abbrev path : List (List ℕ)
   path = stock.row.path
 
@@ -282,6 +292,7 @@ module _ {D K : Type 0} (number command : ℕ) (stock : Stock) (request : Asked)
       way = stock_ways number stock one old work (way_declared request (book_in old).rows work.ways) stamped rules.stamped are way
           (subst (λ ss. Contains ss one) is.rows among);
       mark = stock_marks one among;
+      right = stock_rights stock one old work are right (subst (λ ss. Contains ss one) is.rows among);
     };
     jobs = ap jobs_of is.jobs ∙ are.jobs;
     cleaned = λ running among. are.cleaned running (subst (λ j. Contains j running) is.jobs among);

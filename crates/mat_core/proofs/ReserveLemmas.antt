@@ -1,8 +1,7 @@
 -- What is reserved stays reserved through a request.
-use Rattle.std.proofs.Common.{◌≡◌, ℕ, ◌+◌, ◌*◌, max, count_by, filter, ◌≤◌, ◌<◌, ◌==◌, ◌&&◌, Bool, true, false, not, List, [], ◌∷◌, ◌++◌, cond, refl, sym, ap, subst, ◌∙◌, le_refl, length, length-append, Contains, arith}
+use Rattle.std.proofs.Common.{◌≡◌, ℕ, ◌+◌, ◌*◌, max, count_by, filter, ◌≤◌, ◌==◌, Bool, true, false, not, [], cond, refl, sym, ap, subst, ◌∙◌, le_refl, length, length-append, Contains, arith}
 use Rattle.std.proofs.Math.Nat.{max-eq_left}
 use Rattle.std.proofs.lemmas.Bool.{and_parts}
-use Rattle.std.proofs.lemmas.List.{length-map}
 use Rattle.std.specs.Vec.{vec_capacity}
 use Rattle.std.specs.declared.alloc.Global.{Global}
 use Rattle.std.specs.declared.vec.Vec.{Vec}
@@ -11,18 +10,16 @@ use Rattle.mat_model.specs.declared.answers.Reply.{Reply}
 use Rattle.mat_model.specs.declared.answers.Reply.TheVariants as reply
 use Rattle.mat_model.specs.declared.book.Book.{Book}
 use Rattle.mat_model.specs.declared.entries.Entry.{Entry}
-use Rattle.mat_model.specs.declared.entries.Event.TheVariants as event
 use Rattle.mat_model.specs.declared.requests.Asked.{Asked}
 use Rattle.mat_model.specs.declared.requests.Asked.TheVariants as asked
 use Rattle.mat_model.specs.Gate.{Served, depart, gate_of, is_known, with_gate}
-use Rattle.mat_model.specs.Requests.{RequestContext, at_moment, is_hold_of_other, is_open_of, leave, leave_with, serve, serve_now}
+use Rattle.mat_model.specs.Requests.{RequestContext, at_moment, is_hold_of_other, is_open_of, leave_with, serve, serve_now}
 use Rattle.mat_model.specs.Room.{entries_for}
-use Rattle.mat_model.specs.WorkState.{Job}
 use Rattle.model_laws.proofs.RoomCases.{asked_goes}
 use Rattle.model_laws.proofs.RowCases.{either_served}
-use Rattle.job_book.specs.Jobs.{job_of, jobs_of}
+use Rattle.job_book.specs.Jobs.{jobs_of}
 use Rattle.mat_core.specs.Books.{book_in}
-use Rattle.mat_core.specs.Enters.{is_free_leave, may_leave}
+use Rattle.mat_core.specs.Enters.{is_free_leave}
 use Rattle.mat_core.specs.Rooms.{FitsEntries, HasReserves, IsReservedFor, KeepsReserves, spent_in}
 use Rattle.mat_core.specs.Served.{IsUnchanged, Serves, is_entered}
 use Rattle.mat_core.specs.declared.parts.Parts.{Parts}
@@ -130,18 +127,14 @@ raised_fits now request old raised wants entries is had wanted count place =
 
 -- ---- parts
 
--- as many jobs run where they are the same ones
-same_count : {D K : Type 0} (old new : Parts D K) → jobs_of new.jobs ≡ jobs_of old.jobs → length new.jobs ≡ length old.jobs
-same_count old new same = sym (length-map new.jobs job_of) ∙ ap length same ∙ length-map old.jobs job_of
-
 -- what is reserved stays where the books are the same, and there is no less room in the history than is spent
 pub reserves_kept : {D K : Type 0} (old new : Parts D K) → KeepsReserves old new → spent_in new ≤ vec_capacity new.history → HasReserves old →
     HasReserves new
 reserves_kept old new keeps room had = record {
   history = room;
-  debris = subst (λ n. 2 * n ≤ new.debris.spare) (sym (same_count old new keeps.jobs)) (keeps.debris had.debris);
+  debris = subst (λ js. 2 * length js ≤ new.debris.spare) (sym keeps.jobs) (keeps.debris had.debris);
   places = λ job among. subst (λ r. IsReservedFor r job.task) (sym keeps.places)
-      (had.places job (subst (λ j. Contains j job) keeps.jobs among));
+      (had.places job (subst (λ js. Contains (jobs_of js) job) keeps.jobs among));
 }
 
 keeps_books : {D K : Type 0} (old new : Parts D K) → AreSameBooks old new → KeepsReserves old new
@@ -150,8 +143,8 @@ keeps_books old new same = beside_reserves old new same.debris same.jobs same.ke
 keeps_both : {D K : Type 0} (old middle new : Parts D K) → KeepsReserves old middle → KeepsReserves middle new → KeepsReserves old new
 keeps_both old middle new first second = record {
   jobs = second.jobs ∙ first.jobs;
-  debris = λ room. subst (λ n. 2 * n ≤ new.debris.spare) (same_count old middle first.jobs)
-      (second.debris (subst (λ n. 2 * n ≤ middle.debris.spare) (sym (same_count old middle first.jobs)) (first.debris room)));
+  debris = λ room. subst (λ js. 2 * length js ≤ new.debris.spare) first.jobs
+      (second.debris (subst (λ js. 2 * length js ≤ middle.debris.spare) (sym first.jobs) (first.debris room)));
   places = second.places ∙ first.places;
 }
 
@@ -211,7 +204,7 @@ module _ {D K : Type 0} (by : By) (now : ℕ) (request : Asked) (said : Reply) (
         (ap (λ (b : Book). entries_for request (serve_now (old.first + length old.history.items) context request b).reply) same_moment
         ∙ ap (λ (s : Served). entries_for request s.reply) (sym (serves.served entered context)))
         (fits (old.first + length old.history.items) raised.moment context) in
-        let jobs = same_count raised served serves.reserves.jobs in
+        let jobs : length served.jobs ≡ length raised.jobs = ap length serves.reserves.jobs in
         let entries : length served.history.items ≡ length raised.history.items = ap (λ h. length h.items) serves.beside.history in
         let room : vec_capacity served.history ≡ vec_capacity raised.history = ap vec_capacity serves.beside.history in
         omega (arith, needs, place, jobs, entries, room)

@@ -16,6 +16,8 @@ use Rattle.mat_model.specs.Gate.{Served}
 use Rattle.mat_model.specs.History.{Point, nodes_of}
 use Rattle.mat_model.specs.Requests.{RequestContext, serve_now}
 use Rattle.job_book.specs.Jobs.{job_of, jobs_of}
+use Rattle.job_run.specs.Orders.{is_right}
+use Rattle.row_book.specs.declared.stock.Stock.{Stock}
 use Rattle.row_book.specs.Stocks.{rows_of}
 use Rattle.mat_model.specs.Room.{entries_for, full_served, is_alone, full_table, held_bytes, is_declaration, row_paths, spent, waits_past}
 use Rattle.mat_model.specs.Tickets.{is_open}
@@ -155,6 +157,11 @@ spent_same parts point stands =
     let waiting : length parts.gate.waiting ≡ length point.book.waiting = ap (λ (b : Book). length b.waiting) stands.book in
     omega (arith, entries, jobs, live, waiting)
 
+-- the bytes that some parts hold for a row have the digest of its file
+pub stock_right : {D K : Type 0} (parts : Parts D K) (point : Point) (stock : Stock) → StandFor parts point → Contains parts.rows stock →
+    list_all (is_right stock.method) stock.row.tree ≡ true
+stock_right parts point stock stands among = (stands.work.stocks stock among).right
+
 -- no table is full of a book that grew in none of them
 pub room_for : {D K : Type 0} (limits : Limits) (old new : Parts D K) (point : Point) (request : Asked) (said : Reply) → StandFor old point →
     IsRoomy limits point → waits_past said ≡ false → ways_after request said point.book.rows point.work.ways ≡ point.work.ways →
@@ -193,7 +200,7 @@ same_reserves parts = record { jobs = refl; debris = λ room. room; places = ref
 pub beside_reserves : {D K : Type 0} (old new : Parts D K) → new.debris ≡ old.debris → new.jobs ≡ old.jobs → new.kept ≡ old.kept →
     KeepsReserves old new
 beside_reserves old new debris jobs kept = record {
-  jobs = ap jobs_of jobs;
+  jobs = jobs;
   debris = λ room. subst (λ d. 2 * length old.jobs ≤ d.spare) (sym debris) room;
   places = ap (λ k. k.reserved) kept;
 }

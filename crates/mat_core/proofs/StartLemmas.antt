@@ -36,9 +36,11 @@ use Rattle.restart_scan.specs.Scans.{known_paths, less}
 use Rattle.restart_scan.specs.Stores.{Stores, kept_rows_of}
 use Rattle.core_laws.proofs.StoreReads.{kept_alike}
 use Rattle.job_book.specs.Jobs.{jobs_of}
+use Rattle.job_book.specs.declared.running.Running.{Running}
 use Rattle.mat_core.specs.Begun.{AreFound}
 use Rattle.mat_core.specs.Books.{StandFor}
-use Rattle.mat_core.specs.Cores.{AreDevices, AreLimits, IsCore, IsSeen, IsSound, MaySpeak, MaySpeakFor, Seen, ToldDisk, ToldStore, each_stamp, seen_of}
+use Rattle.mat_core.specs.Cores.{AreDevices, AreLimits, IsCore, IsSeen, IsSound, MaySpeak, MaySpeakFor, Seen, each_stamp, seen_of}
+use Rattle.core_devices.specs.Told.{ToldDisk, ToldStore}
 use Rattle.mat_core.specs.Rooms.{HasReserves}
 use Rattle.mat_core.specs.declared.base.Base.{Base}
 use Rattle.mat_core.specs.declared.parts.Parts.{Parts}
@@ -213,6 +215,7 @@ pub core_begun : {D K : Type 0} (told : D → ToldDisk) (stored : K → ToldStor
 core_begun {D} {K} told stored parts limits right within small found stands jobs lost = record {
   reserves = begun_reserves parts parts.base.opening.value stands jobs;
   lost = lost;
+  ready = λ running among. absurd (nobody running (subst (λ (rs : List Running). Contains rs running) jobs among));
   seen = subst (IsSeen told stored) (sym bare) (record {
     limits = limits;
     opening = right;
@@ -226,6 +229,9 @@ core_begun {D} {K} told stored parts limits right within small found stands jobs
   where
     empty : Seen D K
     empty = record { base = parts.base; history = []; disk = parts.disk; keeper = parts.keeper }
+
+    nobody : (running : Running) → Contains [] running → ⊥
+    nobody running (k, within, at) = omega (arith, within)
 
     bare : seen_of parts ≡ empty
     bare = ap (λ (h : List Entry). record { base = parts.base; history = h; disk = parts.disk; keeper = parts.keeper }) stands.history

@@ -5,14 +5,14 @@ use Rattle.std.specs.Option.{option_map}
 use Rattle.std.proofs.lemmas.Bool.{and_from, and_parts, both_ways, le-ltb, ltb-false, not-true}
 use Rattle.mat_path.proofs.Elements.{contains_cases, contains_map, mapped_contains, none_passes}
 use Rattle.mat_path.proofs.Overlaps.{overlap-refl}
-use Rattle.mat_path.proofs.SameNames.{same_names-eq, same_names-refl}
+use Rattle.mat_path.proofs.SameNames.{same_names-eq}
 use Rattle.mat_path.specs.Names.{overlap}
+use Rattle.mat_digest.specs.Digests.{digest_of}
 use Rattle.mat_tree.specs.declared.flat.Flat.{Flat}
 use Rattle.mat_tree.specs.declared.sum.Sum.{Sum}
 use Rattle.mat_tree.specs.Trees.{bytes_of, same_tree}
 use Rattle.mat_model.specs.declared.answers.Limit.{Limit}
 use Rattle.mat_model.specs.declared.answers.Limit.TheVariants as limit
-use Rattle.mat_model.specs.declared.answers.Reply.{Reply}
 use Rattle.mat_model.specs.declared.answers.Reply.TheVariants as reply
 use Rattle.mat_model.specs.declared.book.Book.{Book}
 use Rattle.mat_model.specs.declared.book.Row.{Row}
@@ -36,11 +36,12 @@ use Rattle.model_laws.proofs.StampLemmas.{one_stamp}
 use Rattle.write_plan.specs.declared.method.Method.{Method}
 use Rattle.write_plan.specs.declared.method.Method.TheVariants as method
 use Rattle.job_book.specs.Jobs.{jobs_of}
+use Rattle.job_run.specs.Orders.{is_right}
 use Rattle.row_book.specs.declared.stock.Stock.{Stock}
 use Rattle.row_book.specs.Stocks.{changed_at, held_bytes as held_of_all, held_of, is_held_method, row_of, rows_of, stock_at, supplied_stock, used_stock, with_method, with_use}
 use Rattle.row_book.proofs.ChangeLemmas.{held_changed}
 use Rattle.row_book.proofs.RowLemmas.{rows_supplied, rows_used}
-use Rattle.mat_core.specs.Books.{AreWork, IsStock, StandFor, book_in, way_in}
+use Rattle.mat_core.specs.Books.{AreWork, IsStock, StandFor, book_in}
 use Rattle.mat_core.specs.Declaring.{IsDeclaring}
 use Rattle.mat_core.specs.Grants.{IsGranted, granted}
 use Rattle.mat_core.specs.Replacing.{AreRuled}
@@ -49,9 +50,10 @@ use Rattle.mat_core.specs.Served.{Serves}
 use Rattle.mat_core.specs.Writing.{IsWriting, lies_equal, lying_of}
 use Rattle.mat_core.specs.declared.parts.Parts.{Parts}
 use Rattle.mat_core.specs.declared.writing.Lying.{Lying}
-use Rattle.mat_core.proofs.DeclareLemmas.{HasNodes, declared_limit, grant_left, held_same, limit_serves, lt_shift, measured, nodes_left}
+use Rattle.mat_core.proofs.DeclareLemmas.{HasNodes, grant_left, held_same, limit_serves, lt_shift, measured, nodes_left}
 use Rattle.mat_core.proofs.GrantLemmas.{paths_used, stamps_used}
 use Rattle.mat_core.proofs.ReplaceLemmas.{way_first, way_other}
+use Rattle.mat_core.proofs.RightLemmas.{same_right, written_right}
 use Rattle.mat_core.proofs.ServeLemmas.{beside_reserves, spent_same, work_ways}
 
 no : {X : Type 0} → false ≡ true → X
@@ -240,6 +242,8 @@ module _ {D K : Type 0} (number command : ℕ) (path : List (List ℕ)) (tree : 
             (ap (λ (t : Stock). t.row.stamp) (same_at path old.rows stock s apart among there at yes_at) ∙ ap (λ (l : Lying). l.stamp) told)
             ∙ sym is.takes;
         mark = (are.stocks s there).mark;
+        right = subst (λ (t : Stock). list_all (is_right way) t.row.tree ≡ true) (sym (same_at path old.rows stock s apart among there at yes_at))
+            (same_right way tree stock.row.tree (and_parts (is_at_path path stock.row) (same_tree stock.row.tree tree) passes.0).1 is.right);
       }
       by s there false off = record {
         way = way_other lying.stamp s.row.stamp held work.ways
@@ -250,6 +254,7 @@ module _ {D K : Type 0} (number command : ℕ) (path : List (List ℕ)) (tree : 
             (ap (λ (l : Lying). l.stamp) told ∙ same)) at))
             ∙ (are.stocks s there).way;
         mark = (are.stocks s there).mark;
+        right = (are.stocks s there).right;
       }
 
   taken_here : held_of_all the_rows + lying.held ≡ held_of_all old.rows + lying.bytes
@@ -421,8 +426,8 @@ lying_absent path tree stocks is = by (find (lies_equal path tree) stocks) refl 
 -- a write by a live command declares its file, where no row at the path has it already and doesn't stand
 pub write_declaring : {D K : Type 0} (number command : ℕ) (path : List (List ℕ)) (sum : Sum) (bytes : List ℕ) (old : Parts D K) →
     are_apart (rows_of old.rows) ≡ true → is_live command (book_in old) ≡ true → find (lies_equal path (written_tree sum)) old.rows ≡ None →
-    IsDeclaring (asked.Write command path sum) number command path (written_tree sum) (method.Write bytes) old
-write_declaring number command path sum bytes old apart live none = record {
+    sum.digest ≡ digest_of bytes → IsDeclaring (asked.Write command path sum) number command path (written_tree sum) (method.Write bytes) old
+write_declaring number command path sum bytes old apart live none digest = record {
   served = λ context.
       ap (λ b. cond {A = Served} b (declare number command path (written_tree sum) (book_in old)) (record { reply = reply.NotLive; book = book_in old })) live;
   nodes = λ said says. refl;
@@ -448,12 +453,14 @@ write_declaring number command path sum bytes old apart live none = record {
             (subst (λ (r : Row). is_equal_row path (written_tree sum) r ≡ true) (sym same) equal) parts.1)))
         | false ↦ λ off. refl
       ] refl);
+  right = λ work are. written_right bytes sum digest;
 }
 
 -- else that row takes the bytes
 pub write_writing : {D K : Type 0} (number command : ℕ) (path : List (List ℕ)) (sum : Sum) (bytes : List ℕ) (old : Parts D K) →
-    is_live command (book_in old) ≡ true → IsWriting (asked.Write command path sum) number command path (written_tree sum) (method.Write bytes) old
-write_writing number command path sum bytes old live = record {
+    is_live command (book_in old) ≡ true → sum.digest ≡ digest_of bytes →
+    IsWriting (asked.Write command path sum) number command path (written_tree sum) (method.Write bytes) old
+write_writing number command path sum bytes old live digest = record {
   served = λ context.
       ap (λ b. cond {A = Served} b (declare number command path (written_tree sum) (book_in old)) (record { reply = reply.NotLive; book = book_in old })) live;
   nodes = λ said says. refl;
@@ -465,6 +472,7 @@ write_writing number command path sum bytes old live = record {
       (ap not lies));
   takes = refl;
   holds = refl;
+  right = written_right bytes sum digest;
 }
 
 -- and one by a command that isn't

@@ -1,5 +1,5 @@
 -- The parts with which a core begins, and its devices beside what they were as they were handed in.
-use Rattle.std.specs.Prelude.{◌≡◌, ℕ, Bool, true, false, List, [], length, map, Result, Ok, Err}
+use Rattle.std.specs.Prelude.{◌≡◌, ℕ, Bool, true, false, [], length, map, Result, Ok, Err}
 use Rattle.std.specs.Option.{option_map}
 use Rattle.mat_model.specs.declared.limits.Limits.{Limits}
 use Rattle.mat_model.specs.declared.opening.Opening.{Opening}
@@ -16,7 +16,8 @@ use Rattle.restart_scan.specs.declared.scanning.Entrance.{Entrance}
 use Rattle.mat_core.specs.Opened.{fetched}
 use Rattle.mat_core.specs.declared.opening.Books.{Books}
 use Rattle.mat_core.specs.declared.starting.Shut.{Shut}
-use Rattle.mat_core.specs.Cores.{Seen, ToldDisk, ToldStore}
+use Rattle.mat_core.specs.Cores.{Seen}
+use Rattle.core_devices.specs.Told.{ToldDisk, ToldStore}
 
 -- ---- parts
 

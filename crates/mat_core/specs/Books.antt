@@ -1,6 +1,6 @@
 -- What the parts of a core stand for: a book, a work state, the kept rows, and so a point of a history.
-use Rattle.std.specs.Prelude.{◌≡◌, ◌==◌, ℕ, Bool, map, Option, Some, None}
-use Rattle.std.specs.List.{Contains, list_any}
+use Rattle.std.specs.Prelude.{◌≡◌, ◌==◌, ℕ, Bool, true, map, Option, Some, None}
+use Rattle.std.specs.List.{Contains, list_all, list_any}
 use Rattle.mat_model.specs.declared.book.Book.{Book}
 use Rattle.mat_model.specs.History.{Point}
 use Rattle.mat_model.specs.Room.{row_paths}
@@ -13,6 +13,7 @@ use Rattle.kept_book.specs.Marks.{mark_of}
 use Rattle.job_book.specs.Jobs.{jobs_of}
 use Rattle.job_book.specs.declared.running.LentPart.{LentPart}
 use Rattle.job_book.specs.declared.running.Running.{Running}
+use Rattle.job_run.specs.Orders.{is_right}
 use Rattle.mat_core.specs.declared.parts.Parts.{Parts}
 
 -- ---- the book
@@ -43,6 +44,8 @@ way_in (method.Copy source rest stamp from) = copied source rest stamp (is_held_
 pub record IsStock (work : WorkState) (stock : Stock) : Type 0 where
   pub way : way_of stock.row.stamp work.ways ≡ way_in stock.method
   pub mark : is_dirty work.dirty stock.row.path ≡ stock.dirty
+  -- the bytes that are held for the row, if any are, have the digest of its file
+  pub right : list_all (is_right stock.method) stock.row.tree ≡ true
 
 -- whether a stamp is another one
 abbrev pub is_same_stamp : ℕ → ℕ → Bool

@@ -1,5 +1,5 @@
 -- What contracts see of a core, and what its type keeps.
-use Rattle.std.specs.Prelude.{◌≡◌, ◌≤◌, ◌⊎◌, ℕ, Bool, true, false, List, [], length, Option, Some}
+use Rattle.std.specs.Prelude.{◌≡◌, ◌≤◌, ◌⊎◌, ℕ, Bool, true, false, List, [], length, Some}
 use Rattle.std.specs.Option.{ForSome}
 use Rattle.mat_tree.specs.Parts.{Part}
 use Rattle.mat_model.specs.declared.entries.Entry.{Entry}
@@ -9,13 +9,14 @@ use Rattle.mat_model.specs.Legal.{IsLegal}
 use Rattle.mat_model.specs.declared.limits.Limits.{Limits}
 use Rattle.mat_model.specs.Openings.{IsOpening}
 use Rattle.mat_model.specs.Room.{greatest_limits}
-use Rattle.region_port.specs.Calls.{Paths}
 use Rattle.keep_port.specs.declared.row.RawRow.{RawRow}
 use Rattle.core_laws.specs.DiskRules.{IsDisk, IsTiedDisk}
 use Rattle.core_laws.specs.Loans.{AreLoans}
 use Rattle.core_laws.specs.Stored.{AreCounted, IsStore}
 use Rattle.core_laws.specs.Whole.{IsWhole}
+use Rattle.core_devices.specs.Told.{ToldDisk, ToldStore}
 use Rattle.mat_core.specs.Books.{StandFor}
+use Rattle.mat_core.specs.Orders.{AreReady}
 use Rattle.mat_core.specs.Rooms.{HasReserves}
 use Rattle.mat_core.specs.declared.base.Base.{Base}
 use Rattle.mat_core.specs.declared.parts.Parts.{Parts}
@@ -26,18 +27,6 @@ pub record Seen (D K : Type 0) : Type 0 where
   pub history : List Entry
   pub disk : D
   pub keeper : K
-
--- what a disk tells: its content, where it does, what it lends, its rough paths, and its count of faults
-pub record ToldDisk : Type 0 where
-  pub content : Option Part
-  pub lent : List (List (List ℕ))
-  pub rough : Paths
-  pub faults : ℕ
-
--- what a state store tells: its rows, where it does, and its count of faults
-pub record ToldStore : Type 0 where
-  pub rows : Option (List RawRow)
-  pub faults : ℕ
 
 -- a disk and a state store, as a core was handed them, are whole, and the disk has no rough path: then the core is sound. Nothing is said of devices
 -- that don't tell what they have
@@ -111,3 +100,5 @@ pub record IsCore {D K : Type 0} (told : D → ToldDisk) (stored : K → ToldSto
   pub reserves : HasReserves parts
   -- they have the paths that were lost at the opening
   pub lost : parts.lost ≡ parts.base.opening.value.lost
+  -- the row of each make that runs, if it is still there, is ready to be stored
+  pub ready : AreReady parts

@@ -1,5 +1,6 @@
 -- A request that declares a tree at a path.
 use Rattle.std.specs.Prelude.{◌≡◌, ◌+◌, nat_lt, ℕ, true, false, if◌then◌else◌, List, length, find, Option, Some, None}
+use Rattle.std.specs.List.{list_all}
 use Rattle.mat_tree.specs.declared.flat.Flat.{Flat}
 use Rattle.mat_model.specs.declared.answers.Limit.{Limit}
 use Rattle.mat_model.specs.declared.answers.Limit.TheVariants as limit
@@ -13,6 +14,7 @@ use Rattle.mat_model.specs.Room.{entries_for}
 use Rattle.mat_model.specs.WorkState.{WorkState, way_declared, writes_lying}
 use Rattle.write_plan.specs.declared.method.Method.{Method}
 use Rattle.row_book.specs.declared.stock.Stock.{Stock}
+use Rattle.job_run.specs.Orders.{is_right}
 use Rattle.mat_core.specs.Books.{AreWork, book_in, way_in}
 use Rattle.mat_core.specs.Rooms.{spent_in}
 use Rattle.mat_core.specs.declared.parts.Parts.{Parts}
@@ -40,3 +42,5 @@ pub record IsDeclaring {D K : Type 0} (request : Asked) (number command : ℕ) (
   pub ways : (work : WorkState) → AreWork old work → way_declared request (book_in old).rows work.ways ≡ way_in way
   -- and a row that has the tree already takes no other one
   pub keeps : (row : Row) → find (is_equal_row path tree) (book_in old).rows ≡ Some row → writes_lying request (book_in old).rows ≡ false
+  -- the bytes that are held by the method, if any are, have the digest of each file of the tree
+  pub right : (work : WorkState) → AreWork old work → list_all (is_right way) tree ≡ true

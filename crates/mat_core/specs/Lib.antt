@@ -3,6 +3,7 @@ pub mod Books
 pub mod Cores
 pub mod Served
 pub mod Asks
+pub mod Choosing
 pub mod Copying
 pub mod Declaring
 pub mod Enters
@@ -12,6 +13,10 @@ pub mod Losing
 pub mod Opened
 pub mod Rooms
 pub mod Polls
-pub mod Events
 pub mod Replacing
 pub mod Writing
+pub mod Beginning
+pub mod Orders
+pub mod PutDown
+pub mod Begins
+pub mod Ending

@@ -1,5 +1,5 @@
 -- A new row that takes the place of those that overlap its path.
-use Rattle.std.specs.Prelude.{◌≡◌, ◌+◌, ◌*◌, ◌≤◌, nat_lt, ℕ, Bool, if◌then◌else◌, List, [], ◌∷◌, length, map, filter, count_by, Option, Some, None}
+use Rattle.std.specs.Prelude.{◌≡◌, ◌+◌, ◌*◌, ◌≤◌, nat_lt, ℕ, if◌then◌else◌, List, [], ◌∷◌, length, map, filter, Option, Some, None}
 use Rattle.mat_path.specs.Names.{is_prefix}
 use Rattle.mat_tree.specs.declared.flat.Flat.{Flat}
 use Rattle.mat_tree.specs.Trees.{bytes_of}

@@ -57,6 +57,6 @@ FitsEntries request parts = (number moment : ℕ) (context : RequestContext) →
 
 -- what is reserved for jobs stays: the jobs, the room for their debris, and the places of their kept rows
 pub record KeepsReserves {D K : Type 0} (old new : Parts D K) : Type 0 where
-  pub jobs : jobs_of new.jobs ≡ jobs_of old.jobs
+  pub jobs : new.jobs ≡ old.jobs
   pub debris : 2 * length old.jobs ≤ old.debris.spare → 2 * length old.jobs ≤ new.debris.spare
   pub places : new.kept.reserved ≡ old.kept.reserved

@@ -1,5 +1,6 @@
 -- A row that takes the bytes that are written.
 use Rattle.std.specs.Prelude.{◌≡◌, ◌&&◌, ℕ, true, false, Bool, not, List, length, find, Some}
+use Rattle.std.specs.List.{list_all}
 use Rattle.mat_tree.specs.declared.flat.Flat.{Flat}
 use Rattle.mat_tree.specs.Trees.{bytes_of}
 use Rattle.mat_model.specs.declared.answers.Reply.{Reply}
@@ -13,6 +14,7 @@ use Rattle.mat_model.specs.WorkState.{held, writes_lying}
 use Rattle.write_plan.specs.declared.method.Method.{Method}
 use Rattle.row_book.specs.declared.stock.Stock.{Stock}
 use Rattle.row_book.specs.Stocks.{held_of, is_held_method}
+use Rattle.job_run.specs.Orders.{is_right}
 use Rattle.mat_core.specs.Books.{book_in, way_in}
 use Rattle.mat_core.specs.declared.parts.Parts.{Parts}
 use Rattle.mat_core.specs.declared.writing.Lying.{Lying}
@@ -38,3 +40,5 @@ pub record IsWriting {D K : Type 0} (request : Asked) (number command : ℕ) (pa
       writes_lying request (book_in old).rows ≡ true
   pub takes : way_in way ≡ held
   pub holds : is_held_method way ≡ true
+  -- and these have the digest of each file of the tree
+  pub right : list_all (is_right way) tree ≡ true

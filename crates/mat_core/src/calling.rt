@@ -95,6 +95,7 @@ impl<D, K> Parts<D, K> {
         ensures legal { is_entered result ≡ true → (point : Point) → StandFor self.old point → IsPoint point → IsRoomy self.old.base.limits point → MayAsk (request_asks request) → IsNumbered point (entry_of by self.new.moment request result) → nat_lt now end_of_time ≡ true → IsLegalEntry self.old.base.limits point (entry_of by self.new.moment request result) }
         ensures history { self.new.history.items ≡ (if is_entered result then self.old.history.items ++ entry_of by self.new.moment request result ∷ [] else self.old.history.items) }
         ensures devices { AreSameDevices self.old self.new }
+        ensures jobs { self.new.jobs ≡ self.old.jobs }
         ensures unchanged { is_entered result ≡ false → StandsStill self.old self.new }
         ensures reserves { HasReserves self.new }
         ensures full { is_want result ≡ false → (point : Point) → StandFor self.old point → IsRoomy self.old.base.limits point → full_of result ≡ full_asked self.old.base.limits point (max point.book.now now) (request_asks request) }

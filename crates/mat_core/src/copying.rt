@@ -24,7 +24,7 @@ pub struct Copied {
 }
 
 // Some bytes once more.
-fn copy_bytes(alloc: Global, bytes: &[u8]) -> Result<Items<u8>, Memory>
+pub(crate) fn copy_bytes(alloc: Global, bytes: &[u8]) -> Result<Items<u8>, Memory>
     ensures { IfOk result (λ copy. copy ≡ bytes.now) }
 {
     let mut copy = Vec::new(alloc);
@@ -33,7 +33,7 @@ fn copy_bytes(alloc: Global, bytes: &[u8]) -> Result<Items<u8>, Memory>
 }
 
 // Where the bytes of a copied row come from, once more.
-fn copy_origin(alloc: Global, origin: &Origin) -> Result<Origin, Memory>
+pub(crate) fn copy_origin(alloc: Global, origin: &Origin) -> Result<Origin, Memory>
     ensures { IfOk result (λ copy. copy ≡ origin.now) }
 {
     match origin {

@@ -6,6 +6,7 @@ ghost use Rattle.row_book.specs.Stocks.{row_of};
 ghost use Rattle.job_book.specs.Jobs.{job_of};
 ghost use Rattle.mat_core.specs.Polls.{owner_of, poll_in};
 
+use crate::begins::Begun;
 use crate::entering::place_of;
 use crate::parts::Parts;
 use hall_lock::By;
@@ -14,7 +15,7 @@ use keep_port::Keeper;
 use mat_model::{Answer, Book, Card, Entry, Reply, Request, Ticket};
 use mat_path::{Memory, Path};
 use path_trie::Steps;
-use region_port::Disk;
+use region_port::{Disk, Region};
 use row_book::Stock;
 use std::marker::Model;
 use std::sync::ledger::Ledger;
@@ -48,7 +49,9 @@ pub struct Core<D: Disk, K: Keeper> {
 }
 
 impl<D: Disk, K: Keeper> Model for Core<D, K> {
-    ghost use Rattle.mat_core.specs.Cores.{IsCore, Seen, ToldDisk, ToldStore, seen_of};
+    ghost use Rattle.mat_core.specs.Cores.{IsCore, Seen, seen_of};
+    ghost use Rattle.mat_core.specs.Begins.{BeginsTold};
+    ghost use Rattle.core_devices.specs.Told.{ToldDisk, ToldStore, told_disk, told_store};
 
     ghost Value = { Seen D K };
 
@@ -62,7 +65,9 @@ impl<D: Disk, K: Keeper> Core<D, K> {
     ghost use Rattle.mat_model.specs.Legal.{MayAsk, end_of_time, is_of};
     ghost use Rattle.mat_model.specs.Room.{full_asked};
     ghost use Rattle.mat_core.specs.Asks.{entry_of, request_asks};
-    ghost use Rattle.mat_core.specs.Cores.{IsSeen, ToldDisk, ToldStore, point_in};
+    ghost use Rattle.mat_core.specs.Cores.{IsSeen, point_in};
+    ghost use Rattle.mat_core.specs.Begins.{BeginsTold};
+    ghost use Rattle.core_devices.specs.Told.{ToldDisk, ToldStore, told_disk, told_store};
     ghost use Rattle.mat_core.specs.Served.{full_of, is_entered, is_want};
     ghost use Rattle.mat_model.specs.Gate.{gate_of};
     ghost use Rattle.mat_model.specs.Rows.{cover};
@@ -91,6 +96,16 @@ impl<D: Disk, K: Keeper> Core<D, K> {
         ensures full { is_want result ≡ false → full_of result ≡ full_asked self.old.base.limits (point_in self.old) (max (point_in self.old).book.now now) (request_asks request) }
     {
         self.parts.call(by, now, request)
+    }
+
+    /// Begins the task that comes first, if one may: its parts are lent to the job, and the kept rows that overlap its path are removed. It is refused where
+    /// the state store fails to remove them; then, and for want of memory, all is as it was.
+    pub fn begin(&mut self, by: By) -> Begun<D::R>
+        requires number { by.number ≡ count_by (is_of by.caller) self.old.history }
+        ensures base { self.new.base ≡ self.old.base }
+        ensures told { BeginsTold ⟦<D::R as Region>⟧ by (told_disk ⟦<D as Disk>⟧) (told_store ⟦<K as Keeper>⟧) self.old self.new result }
+    {
+        self.parts.begin(by)
     }
 
     /// Where a command is. Takes no memory, as the calls below.

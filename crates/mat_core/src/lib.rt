@@ -3,10 +3,15 @@
 
 mod asking;
 mod base;
+mod beginning;
+mod begins;
+mod begun;
 mod calling;
+mod choosing;
 mod copying;
 mod core_;
 mod declaring;
+mod ending;
 mod ensuring;
 mod entering;
 mod falling;
@@ -19,6 +24,7 @@ mod losing;
 mod opening;
 mod opening_debris;
 mod parts;
+mod preparing;
 mod replacing;
 mod room;
 mod starting;
@@ -27,6 +33,10 @@ mod tests;
 mod writing;
 
 pub use base::Base;
+pub use begins::Begun;
 pub use core_::{Core, Place, Poll};
-pub use laws::{begin_keeps_core, end_keeps_core, refusal_keeps_core, untouched_devices_keep_core};
+pub use laws::{
+    begin_keeps_core, cleaned_stamps_are_gone, end_keeps_core, refusal_keeps_core,
+    untouched_devices_keep_core,
+};
 pub use starting::Shut;

@@ -42,17 +42,14 @@ fn answer_if_lost(tickets: &mut TicketBook, top: &Path, row: &Row, number: u64, 
 }
 
 /// Answers, at an entry, the open tickets that nothing is declared which ask for a path at or below one that a row doesn't cover. Takes no
-/// memory. From the lowest of those at or below the path on, each open ticket is looked at.
+/// memory. Of the open tickets only those that ask for a path at or below that one are looked at; the next one is found by a look-up of the
+/// path and a logarithm, however many there are.
 pub(crate) fn answer_lost(tickets: &mut TicketBook, top: &Path, row: &Row, number: u64)
     requires { list_all (is_earlier number) tickets.old.all ≡ true }
     ensures { tickets.new.all ≡ map (lost_below top.now row.now number) tickets.old.all }
 {
-    tickets.are_tickets();
-    let Some(lowest) = tickets.lowest_below(top) else {
-        return;
-    };
-    let mut from = lowest;
-    'tickets: while let Some(ticket) = tickets.next_open(from) {
+    let mut from = 0;
+    'tickets: while let Some(ticket) = tickets.next_below(top, from) {
         tickets.are_tickets();
         answer_if_lost(tickets, top, row, number, ticket);
         from = ticket + 1;

@@ -1,6 +1,5 @@
-use Rattle.std.proofs.Common.{refl, sym, ◌∙◌, arith}
-use Rattle.std.specs.Option.{option_map}
-use Rattle.mat_core.proofs.FallLemmas.{all_overlap, overlap_most, walked, walks}
+use Rattle.std.proofs.Common.{refl, arith}
+use Rattle.mat_core.proofs.FallLemmas.{overlap_most, walked, walks}
 use Rattle.mat_core.proofs.falling.fall_at.Goals as goal
 
 pub overflow_add-count : goal.overflow_add-count

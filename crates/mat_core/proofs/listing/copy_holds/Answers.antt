@@ -1,4 +1,4 @@
-use Rattle.std.proofs.Common.{rules, ◌≡◌, ◌∙◌, ◌++◌, ◌∷◌, [], ◌+◌, ◌-◌, Some, None, ap, sym, subst, drop, length, slice_get, arith}
+use Rattle.std.proofs.Common.{rules, ◌≡◌, ◌∙◌, ◌++◌, Some, ap, sym, subst, drop, length, slice_get}
 use Rattle.mat_core.proofs.ListLemmas.{copied_all, copied_on, hold_none, hold_some}
 use Rattle.mat_core.proofs.listing.copy_holds.Goals as goal
 

@@ -1,4 +1,4 @@
-use Rattle.std.proofs.Common.{rules, ◌≡◌, ◌∙◌, ◌++◌, ◌∷◌, [], ◌+◌, ◌-◌, ◌<◌, Some, None, ap, sym, subst, filter, find, length, length-append, arith}
+use Rattle.std.proofs.Common.{◌≡◌, ◌∙◌, ◌++◌, ◌∷◌, [], ◌+◌, ◌<◌, ap, sym, subst, filter, find, length, length-append, arith}
 use Rattle.row_book.specs.Stocks.{is_past, rows_of}
 use Rattle.mat_core.proofs.ListLemmas.{all_ahead, last_of, rows_all, rows_fewer, rows_on}
 use Rattle.mat_core.proofs.listing.copy_rows.Goals as goal

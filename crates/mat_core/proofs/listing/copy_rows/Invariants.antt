@@ -1,7 +1,7 @@
-use Rattle.std.proofs.Common.{◌≡◌, ◌++◌, ◌-◌, ◌+◌, filter, length, map, slice_get}
+use Rattle.std.proofs.Common.{◌≡◌, ◌++◌, ◌-◌, filter, length, slice_get}
 use Rattle.std.specs.Option.{option_map}
 use Rattle.mat_model.specs.Openings.{path_of_row}
-use Rattle.row_book.specs.Stocks.{is_past, row_of, rows_of}
+use Rattle.row_book.specs.Stocks.{is_past, rows_of}
 use Rattle.mat_core.proofs.listing.copy_rows.Given as goal
 
 -- the copies in front of the rows behind the last of them are all rows

@@ -21,7 +21,7 @@ invariant_of-self g c =
     core_called (λ disk. record { content = g.D.Disk.content disk; lent = g.D.Disk.lent disk; rough = g.D.Disk.rough disk; faults = g.D.Disk.fault_count disk })
     (λ keeper. record { rows = g.K.Keeper.kept keeper; faults = g.K.Keeper.fault_count keeper }) c.self.inside.parts c.call.new.self c.args.by c.args.now c.args.request
     c.call.result c.self.invariant c.call.ensures.quiet c.call.ensures.stands c.call.ensures.legal c.call.ensures.history c.call.ensures.devices
-    c.call.ensures.unchanged c.call.ensures.reserves (c.requires.number ∙ ap (λ s. count_by (is_of c.args.by.caller) s.history) (sym c.self.view_is)) c.requires.asks
+    c.call.ensures.unchanged c.call.ensures.reserves c.call.ensures.jobs (c.requires.number ∙ ap (λ s. count_by (is_of c.args.by.caller) s.history) (sym c.self.view_is)) c.requires.asks
     c.requires.time
 
 pub returns-clause-history : goal.returns-clause-history
@@ -29,7 +29,7 @@ returns-clause-history g c =
     called_history (λ disk. record { content = g.D.Disk.content disk; lent = g.D.Disk.lent disk; rough = g.D.Disk.rough disk; faults = g.D.Disk.fault_count disk })
     (λ keeper. record { rows = g.K.Keeper.kept keeper; faults = g.K.Keeper.fault_count keeper }) c.self.inside.parts c.call.new.self c.args.by c.args.now c.args.request
     c.call.result c.self.invariant c.call.ensures.quiet c.call.ensures.stands c.call.ensures.legal c.call.ensures.history c.call.ensures.devices
-    c.call.ensures.unchanged c.call.ensures.reserves (c.requires.number ∙ ap (λ s. count_by (is_of c.args.by.caller) s.history) (sym c.self.view_is)) c.requires.asks
+    c.call.ensures.unchanged c.call.ensures.reserves c.call.ensures.jobs (c.requires.number ∙ ap (λ s. count_by (is_of c.args.by.caller) s.history) (sym c.self.view_is)) c.requires.asks
     c.requires.time
     ∙ ap (λ s. cond (is_entered c.call.result)
     (s.history ++ entry_of c.args.by (point_in (seen_of c.call.new.self)).book.now c.args.request c.call.result ∷ []) s.history) c.self.view_is

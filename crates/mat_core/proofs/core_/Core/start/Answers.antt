@@ -1,4 +1,4 @@
-use Rattle.std.proofs.Common.{rules, ◌≡◌, ◌∙◌, ◌+◌, ◌≤◌, ◌<◌, ◌^◌, length, refl, sym, ap, subst, arith}
+use Rattle.std.proofs.Common.{rules, ◌∙◌, ◌+◌, ◌≤◌, ◌<◌, ◌^◌, length, refl, sym, ap, subst, arith}
 use Rattle.mat_core.specs.Begun.{AreFound}
 use Rattle.mat_core.proofs.StartLemmas.{core_started}
 use Rattle.mat_core.proofs.core_.Core.start.Goals as goal

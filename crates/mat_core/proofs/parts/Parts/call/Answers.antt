@@ -2,7 +2,6 @@ use Rattle.std.proofs.Common.{rules, ◌≡◌, ◌∙◌, ◌++◌, ◌∷◌, 
 use Rattle.std.specs.Vec.{vec_capacity, vec_len}
 use Rattle.mat_model.specs.declared.entries.Event.TheVariants as event
 use Rattle.mat_core.specs.Asks.{request_asks}
-use Rattle.mat_core.specs.Books.{book_in}
 use Rattle.mat_core.specs.Replacing.{AreRuled}
 use Rattle.mat_core.specs.Served.{Serves}
 use Rattle.mat_core.proofs.CallLemmas.{call_legal, call_stands, full_told, raised_by, ruled_raised, still_stands}

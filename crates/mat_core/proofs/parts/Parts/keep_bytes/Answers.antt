@@ -1,4 +1,4 @@
-use Rattle.std.proofs.Common.{◌≡◌, ◌∙◌, ◌+◌, ap, subst, sym}
+use Rattle.std.proofs.Common.{◌∙◌, ◌+◌, ap, subst, sym}
 use Rattle.mat_model.specs.declared.answers.Reply.TheVariants as reply
 use Rattle.mat_core.specs.Served.{Serves}
 use Rattle.mat_core.proofs.DeclareLemmas.{has_nodes, nodes_still_fit}

@@ -1,4 +1,4 @@
-use Rattle.std.proofs.Common.{◌≡◌, ◌∙◌, None, ap, ap₂, sym}
+use Rattle.std.proofs.Common.{◌∙◌, ap₂, sym}
 use Rattle.row_book.specs.Stocks.{held_bytes}
 use Rattle.mat_core.specs.Replacing.{full_replaced}
 use Rattle.mat_core.proofs.DeclareLemmas.{has_nodes, put_full, put_hold_full}

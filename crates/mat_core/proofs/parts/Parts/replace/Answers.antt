@@ -1,4 +1,4 @@
-use Rattle.std.proofs.Common.{rules, ◌≡◌, ◌≤◌, ◌∙◌, filter, find, length, map, Some, refl, sym, ap, ap₂, subst, arith}
+use Rattle.std.proofs.Common.{rules, ◌≡◌, ◌≤◌, ◌∙◌, filter, find, length, map, refl, sym, ap, ap₂, subst, arith}
 use Rattle.mat_model.specs.Tickets.{with_hold}
 use Rattle.model_laws.specs.TicketRules.{lost_below}
 use Rattle.job_book.specs.Jobs.{jobs_of}

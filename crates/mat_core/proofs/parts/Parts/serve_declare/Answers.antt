@@ -1,4 +1,4 @@
-use Rattle.std.proofs.Common.{◌+◌, refl, sym, ◌∙◌, ap, subst}
+use Rattle.std.proofs.Common.{refl, sym, ◌∙◌, ap, subst}
 use Rattle.mat_model.specs.declared.answers.Reply.TheVariants as reply
 use Rattle.mat_model.specs.declared.requests.Asked.TheVariants as asked
 use Rattle.mat_core.specs.Declaring.{full_nodes}

@@ -37,7 +37,8 @@ returns-in-Some-lying_row g c =
     c.keep_bytes.ensures (asked.Write c.args.command c.args.path sum)
     (subst (λ t. IsWriting (asked.Write c.args.command c.args.path sum) c.args.number c.args.command c.args.path t (method.Write c.of.result) c.args.self.now)
     (sym same)
-    (write_writing c.args.number c.args.command c.args.path sum c.of.result c.args.self.now (sym c.is_live.ensures ∙ c.if-not-is_live.false)))
+    (write_writing c.args.number c.args.command c.args.path sum c.of.result c.args.self.now (sym c.is_live.ensures ∙ c.if-not-is_live.false)
+    (ap digest_of (sym c.of.ensures))))
 
 pub returns-in-None : goal.returns-in-None
 returns-in-None g c =
@@ -50,4 +51,5 @@ returns-in-None g c =
     (write_declaring c.args.number c.args.command c.args.path sum c.of.result c.args.self.now (ruled_apart c.args.number c.args.self.now c.requires)
     (sym c.is_live.ensures ∙ c.if-not-is_live.false)
     (subst (λ t. find (lies_equal c.args.path t) c.args.self.now.rows ≡ None) same
-    (lying_absent c.args.path c.in-Ok.tree c.args.self.now.rows (sym c.in-None.ensures)))))
+    (lying_absent c.args.path c.in-Ok.tree c.args.self.now.rows (sym c.in-None.ensures)))
+    (ap digest_of (sym c.of.ensures))))
