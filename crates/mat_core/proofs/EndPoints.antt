@@ -273,7 +273,7 @@ module _ {D K : Type 0} (number : ℕ) (by : By) (running : Running) (out : Outc
   job_runs : running_of running.card.job point.work ≡ Some (job_of running)
   job_runs =
       ap (find (is_job running.card.job)) (sym stands.work.jobs)
-      ∙ sym (job_found running.card.job was.before.jobs (Some running) (sym was.found))
+      ∙ sym (job_found running.card.job was.before.jobs (Some was.whole) (sym was.found)) ∙ ap (λ (r : Running). Some (job_of r)) (sym was.same)
 
   job_among : Contains point.work.jobs (job_of running)
   job_among = found_contains (is_job running.card.job) point.work.jobs (job_of running) job_runs
@@ -337,7 +337,8 @@ module _ {D K : Type 0} (number : ℕ) (by : By) (running : Running) (out : Outc
           (is_clean running.card.task refl) entered.ended
 
       was_cleaned : IsPart point.work running.lent
-      was_cleaned = stands.work.cleaned running (found_contains (is_number running.card.job) was.before.jobs running was.found)
+      was_cleaned = subst (λ (r : Running). IsPart point.work r.lent) (sym was.same)
+          (stands.work.cleaned was.whole (found_contains (is_number running.card.job) was.before.jobs was.whole was.found))
 
       -- a task that ended leaves what is cleaned
       part_of_task : (lent : Option LentPart) → IsPart point.work lent →

@@ -112,11 +112,15 @@ module _ {D K : Type 0} (number : ℕ) (running : Running) (out : Outcome) (old 
   abbrev point : Point
   point = was.rules.point
 
-  run_among : Contains was.before.jobs running
-  run_among = found_contains (is_number running.card.job) was.before.jobs running was.found
+  run_among : Contains was.before.jobs was.whole
+  run_among = found_contains (is_number running.card.job) was.before.jobs was.whole was.found
+
+  ran_among : Contains (jobs_of was.before.jobs) (job_of running)
+  ran_among =
+      subst (λ (r : Running). Contains (jobs_of was.before.jobs) (job_of r)) (sym was.same) (contains_map job_of was.before.jobs was.whole run_among)
 
   job_among : Contains point.work.jobs (job_of running)
-  job_among = subst (λ js. Contains js (job_of running)) was.rules.stands.work.jobs (contains_map job_of was.before.jobs running run_among)
+  job_among = subst (λ js. Contains js (job_of running)) was.rules.stands.work.jobs ran_among
 
   some_jobs : 1 ≤ length was.before.jobs
   some_jobs = let (k, within, at) = run_among in omega (arith, within)
@@ -126,7 +130,7 @@ module _ {D K : Type 0} (number : ℕ) (running : Running) (out : Outcome) (old 
   fewer_jobs =
       subst (λ (p : Parts D K). length p.jobs + 1 ≤ length was.before.jobs) (sym was.only)
       (one_less (is_number running.card.job) (is_other running.card.job) (λ other. refl) was.before.jobs
-      (contains_any (is_number running.card.job) was.before.jobs running run_among (found_passes (is_number running.card.job) was.before.jobs running was.found)))
+      (contains_any (is_number running.card.job) was.before.jobs was.whole run_among (found_passes (is_number running.card.job) was.before.jobs was.whole was.found)))
 
   same_debris : old.debris ≡ was.before.debris
   same_debris = ap (λ (p : Parts D K). p.debris) was.only
@@ -149,7 +153,7 @@ module _ {D K : Type 0} (number : ℕ) (running : Running) (out : Outcome) (old 
       has_place path (end_of old.rows (task.Make path stamp) out) old.kept.reserved
       (subst (λ (p : Parts D K). is_reserved p.kept.reserved path ≡ true) (sym was.only)
       (subst (IsReservedFor was.before.kept.reserved) is
-      (was.reserves.places (job_of running) (contains_map job_of was.before.jobs running run_among))))
+      (was.reserves.places (job_of running) ran_among)))
   places (task.Wipe path) is = wipe_places path (failure_of_make out) old.kept.reserved
 
   part_apart : (lent : Option LentPart) → running.lent ≡ lent →

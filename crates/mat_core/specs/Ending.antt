@@ -44,8 +44,10 @@ pub record WasRunning {D K : Type 0} (number : ℕ) (running : Running) (parts :
   -- they stood for a point that keeps its rules
   pub before : Parts D K
   pub rules : AreRuled number before
-  -- the job was among their jobs, and they had reserved what its end needs
-  pub found : find (is_number running.card.job) before.jobs ≡ Some running
+  -- the job was among their jobs, but for what it kept to be stored, and they had reserved what its end needs
+  pub whole : Running
+  pub found : find (is_number running.card.job) before.jobs ≡ Some whole
+  pub same : running ≡ record whole { kept = running.kept }
   pub reserves : HasReserves before
   pub only : parts ≡ record before { jobs = filter (is_other_number running.card.job) before.jobs; disk = parts.disk; keeper = parts.keeper }
 
