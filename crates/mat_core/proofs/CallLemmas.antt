@@ -149,11 +149,11 @@ limit_moment limits point (asked.Clean cutoff mode) served moment = refl
 limit_moment limits point asked.Flush served moment = refl
 
 -- a moment that is raised twice is raised once
-raised_twice : (before now : ℕ) → max before (max before now) ≡ max before now
+pub raised_twice : (before now : ℕ) → max before (max before now) ≡ max before now
 raised_twice before now = max_comm before (max before now) ∙ max-eq_left (le-max_left before now)
 
 -- a moment that is raised by one that may come may come
-time_raised : (before now : ℕ) → nat_lt now end_of_time ≡ true → may_be_now before (max before now) ≡ true
+pub time_raised : (before now : ℕ) → nat_lt now end_of_time ≡ true → may_be_now before (max before now) ≡ true
 time_raised before now within =
     elim (nat_lt before now) as (λ b. nat_lt before now ≡ b → may_be_now before (max before now) ≡ true) [
       | true ↦ λ is. ap (may_be_now before) (max-eq_right {n = before} {m = now} (omega (arith, ltb-true before now is)))

@@ -123,7 +123,7 @@ begin_legal limits point by begun said replied still numbered first room recorde
 }
 
 -- a note of the state store's count, which rose, overlaps none of a history whose notes aren't behind it
-store_note_apart : (history : List Entry) (before now disk : ℕ) (note : FaultNote) → AreCounted history before disk → before ≤ now →
+pub store_note_apart : (history : List Entry) (before now disk : ℕ) (note : FaultNote) → AreCounted history before disk → before ≤ now →
     IsStoreNote before now (Some note) → IsNoteFrom (count_behind 0 history) (Some note)
 store_note_apart history before now disk note counted risen told =
     let from : note.before ≡ before = ap (λ (n : FaultNote). n.before) told.0 in

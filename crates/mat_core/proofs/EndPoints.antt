@@ -82,7 +82,7 @@ job_gone {D} {K} number before old point stands only = record {
 
 -- ---- the part that comes back
 
-any_found : {A : Type 0} (test : A → Bool) (xs : List A) → list_any test xs ≡ is_some (find test xs)
+pub any_found : {A : Type 0} (test : A → Bool) (xs : List A) → list_any test xs ≡ is_some (find test xs)
 any_found test [] = refl
 any_found {A} test (x ∷ xs) =
     elim (test x) as (λ b. (b || list_any test xs) ≡ is_some (cond b (Some x) (find test xs))) [ true ↦ refl | false ↦ any_found test xs ]

@@ -46,7 +46,7 @@ none_left {A} p (x ∷ xs) is =
       | false ↦ λ it. none_left p xs it
     ] is
 
-any_parted : {A : Type 0} (p q t : A → Bool) → ((x : A) → q x ≡ not (p x)) → (xs : List A) →
+pub any_parted : {A : Type 0} (p q t : A → Bool) → ((x : A) → q x ≡ not (p x)) → (xs : List A) →
     list_any t xs ≡ (list_any t (filter p xs) || list_any t (filter q xs))
 any_parted p q t other [] = refl
 any_parted {A} p q t other (x ∷ xs) =
@@ -223,7 +223,7 @@ unkept_more marks mark path =
     elim (same_names path mark.path) as (λ b. is_none (cond b (Some mark) (find (is_mark_at path) marks)) ≡ (not b && is_unkept_at marks path))
     [ true ↦ refl | false ↦ refl ]
 
-no_mark : (kept : KeptRow) (more : List KeptRow) → list_all (is_after_by path_of_kept kept.path) more ≡ true →
+pub no_mark : (kept : KeptRow) (more : List KeptRow) → list_all (is_after_by path_of_kept kept.path) more ≡ true →
     is_unkept_at (map mark_of more) kept.path ≡ true
 no_mark kept [] all = refl
 no_mark kept (next ∷ more) all =
@@ -241,7 +241,7 @@ no_mark kept (next ∷ more) all =
         ] refl
 
 -- of stocks that are apart as many more have a kept row as the new mark is at the path of one
-count_more : (marks : List Mark) (mark : Mark) (stocks : List Stock) → are_apart (rows_of stocks) ≡ true → is_unkept_at marks mark.path ≡ true →
+pub count_more : (marks : List Mark) (mark : Mark) (stocks : List Stock) → are_apart (rows_of stocks) ≡ true → is_unkept_at marks mark.path ≡ true →
     count_by (is_unkept (mark ∷ marks)) stocks + one_if (list_any (is_at_path mark.path) (rows_of stocks)) ≡ count_by (is_unkept marks) stocks
 count_more marks mark [] apart free = refl
 count_more marks mark (first ∷ stocks) apart free =
@@ -338,12 +338,12 @@ alone_row path new rows kept at =
     by false true false first second = refl
     by false false y first second = refl
 
-longer : {A : Type 0} (test : A → Bool) (x : A) (xs : List A) → length (filter test (x ∷ xs)) ≡ one_if (test x) + length (filter test xs)
+pub longer : {A : Type 0} (test : A → Bool) (x : A) (xs : List A) → length (filter test (x ∷ xs)) ≡ one_if (test x) + length (filter test xs)
 longer {A} test x xs =
     elim (test x) as (λ b. length (cond b (x ∷ filter test xs) (filter test xs)) ≡ one_if b + length (filter test xs))
     [ true ↦ omega arith | false ↦ omega arith ]
 
-unmarked_all : (stocks : List Stock) → count_by (is_unkept []) stocks ≡ length stocks
+pub unmarked_all : (stocks : List Stock) → count_by (is_unkept []) stocks ≡ length stocks
 unmarked_all [] = refl
 unmarked_all (stock ∷ stocks) =
     let more = unmarked_all stocks in
@@ -403,24 +403,24 @@ paths_replaced path new stocks kept at apart same ascend =
 -- ---- debris
 
 -- what remains of some rows is what the model adds for them
-pub remains_added : (jobs : List Job) (work : WorkState) (stocks : List Stock) (debris : List Debris) → jobs ≡ work.jobs →
+pub remains_added : (condemned : Bool) (jobs : List Job) (work : WorkState) (stocks : List Stock) (debris : List Debris) → jobs ≡ work.jobs →
     ((stock : Stock) → Contains stocks stock → is_dirty work.dirty stock.row.path ≡ stock.dirty) →
-    with_remains jobs stocks debris ≡ add_debris false (filter (leaves_debris work) (rows_of stocks)) debris
-remains_added jobs work [] debris same marks = refl
-remains_added jobs work (first ∷ stocks) debris same marks =
-    ap (λ b. with_remains jobs stocks (cond b (put_debris (record { path = first.row.path; condemned = false }) debris) debris)) here
+    with_remains condemned jobs stocks debris ≡ add_debris condemned (filter (leaves_debris work) (rows_of stocks)) debris
+remains_added condemned jobs work [] debris same marks = refl
+remains_added condemned jobs work (first ∷ stocks) debris same marks =
+    ap (λ b. with_remains condemned jobs stocks (cond b (put_debris (record { path = first.row.path; condemned = condemned }) debris) debris)) here
     ∙ by (leaves_debris work first.row)
-    (λ more. remains_added jobs work stocks more same (λ stock among. marks stock (contains_more first stocks stock among)))
+    (λ more. remains_added condemned jobs work stocks more same (λ stock among. marks stock (contains_more first stocks stock among)))
   where
     here : is_remaining jobs first ≡ leaves_debris work first.row
     here =
         ap₂ (λ (b : Bool) (js : List Job). (first.row.stands || b) && not (is_lent first.row.path js)) (sym (marks first (contains_first first stocks))) same
 
     by : (b : Bool) →
-        ((more : List Debris) → with_remains jobs stocks more ≡ add_debris false (filter (leaves_debris work) (rows_of stocks)) more) →
-        with_remains jobs stocks (cond b (put_debris (record { path = first.row.path; condemned = false }) debris) debris)
-        ≡ add_debris false (cond b (first.row ∷ filter (leaves_debris work) (rows_of stocks)) (filter (leaves_debris work) (rows_of stocks))) debris
-    by true later = later (put_debris (record { path = first.row.path; condemned = false }) debris)
+        ((more : List Debris) → with_remains condemned jobs stocks more ≡ add_debris condemned (filter (leaves_debris work) (rows_of stocks)) more) →
+        with_remains condemned jobs stocks (cond b (put_debris (record { path = first.row.path; condemned = condemned }) debris) debris)
+        ≡ add_debris condemned (cond b (first.row ∷ filter (leaves_debris work) (rows_of stocks)) (filter (leaves_debris work) (rows_of stocks))) debris
+    by true later = later (put_debris (record { path = first.row.path; condemned = condemned }) debris)
     by false later = later debris
 
 pub any_put_debris : (t : Debris → Bool) (new : Debris) (debris : List Debris) → list_any t (put_debris new debris) ≡ (t new || list_any t debris)
@@ -438,20 +438,20 @@ any_put_debris t new (first ∷ debris) =
     swap false b c = refl
 
 -- rows that are apart may become debris one after the other, where each may alone
-pub all_remain : (jobs : List Job) (stocks : List Stock) (debris : List Debris) → are_apart (rows_of stocks) ≡ true →
-    ((stock : Stock) → Contains stocks stock → MayRemain jobs stock debris) → MayAllRemain jobs stocks debris
-all_remain jobs [] debris apart free = tt
-all_remain jobs (first ∷ stocks) debris apart free =
+pub all_remain : (condemned : Bool) (jobs : List Job) (stocks : List Stock) (debris : List Debris) → are_apart (rows_of stocks) ≡ true →
+    ((stock : Stock) → Contains stocks stock → MayRemain jobs stock debris) → MayAllRemain condemned jobs stocks debris
+all_remain condemned jobs [] debris apart free = tt
+all_remain condemned jobs (first ∷ stocks) debris apart free =
     let parts = and_parts (list_all (is_apart first.row) (rows_of stocks)) (are_apart (rows_of stocks)) apart in (
       free first (contains_first first stocks),
-      all_remain jobs stocks (with_remain jobs first debris) parts.1
+      all_remain condemned jobs stocks (with_remain condemned jobs first debris) parts.1
           (λ other among.
           still other (is_remaining jobs first) (later_stock first stocks other parts.0 among).1 (free other (contains_more first stocks other among))),
     )
   where
     still : (other : Stock) (b : Bool) → overlap first.row.path other.row.path ≡ false → MayRemain jobs other debris →
-        MayRemain jobs other (cond b (put_debris (record { path = first.row.path; condemned = false }) debris) debris)
+        MayRemain jobs other (cond b (put_debris (record { path = first.row.path; condemned = condemned }) debris) debris)
     still other true clear may = λ remains.
-        any_put_debris (overlaps_debris other.row.path) (record { path = first.row.path; condemned = false }) debris
+        any_put_debris (overlaps_debris other.row.path) (record { path = first.row.path; condemned = condemned }) debris
         ∙ ap₂ (λ (a b : Bool). a || b) clear (may remains)
     still other false clear may = may

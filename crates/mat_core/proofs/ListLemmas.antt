@@ -111,13 +111,13 @@ last_pushed rows row =
 -- ---- a list that is copied by place
 
 -- what is behind a place begins with what is there
-drop_at : {X : Type 0} (xs : List X) (n : ℕ) (x : X) → slice_get xs n ≡ Some x → drop n xs ≡ x ∷ drop (suc n) xs
+pub drop_at : {X : Type 0} (xs : List X) (n : ℕ) (x : X) → slice_get xs n ≡ Some x → drop n xs ≡ x ∷ drop (suc n) xs
 drop_at [] n x is = absurd cc
 drop_at (y ∷ xs) zero x is = let e : y ≡ x = cc in ap (λ z. z ∷ xs) e
 drop_at (y ∷ xs) (suc n) x is = drop_at xs n x is
 
 -- nothing is behind a place where nothing is
-drop_end : {X : Type 0} (xs : List X) (n : ℕ) → slice_get xs n ≡ None → drop n xs ≡ []
+pub drop_end : {X : Type 0} (xs : List X) (n : ℕ) → slice_get xs n ≡ None → drop n xs ≡ []
 drop_end [] zero is = refl
 drop_end [] (suc n) is = refl
 drop_end (y ∷ xs) zero is = absurd cc

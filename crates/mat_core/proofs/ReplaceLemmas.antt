@@ -153,7 +153,7 @@ removed_are next path new rows stamped number =
 -- ---- marks of rows whose make failed
 
 -- a path that isn't that of a removed row is dirty as it was
-dirty_left : (removed : List Row) (dirty : List (List (List ℕ))) (path : List (List ℕ)) → is_kept_dirty removed path ≡ true →
+pub dirty_left : (removed : List Row) (dirty : List (List (List ℕ))) (path : List (List ℕ)) → is_kept_dirty removed path ≡ true →
     is_dirty (filter (is_kept_dirty removed) dirty) path ≡ is_dirty dirty path
 dirty_left removed [] path keeps = refl
 dirty_left removed (one ∷ dirty) path keeps =
@@ -297,8 +297,8 @@ module _ {D K : Type 0} (number command : ℕ) (stock : Stock) (request : Asked)
     jobs = ap jobs_of is.jobs ∙ are.jobs;
     cleaned = λ running among. are.cleaned running (subst (λ j. Contains j running) is.jobs among);
     debris = is.debris
-        ∙ ap (with_remains (jobs_of old.jobs) (filter (overlaps_stock path) old.rows)) are.debris
-        ∙ remains_added (jobs_of old.jobs) work (filter (overlaps_stock path) old.rows) work.debris are.jobs
+        ∙ ap (with_remains false (jobs_of old.jobs) (filter (overlaps_stock path) old.rows)) are.debris
+        ∙ remains_added false (jobs_of old.jobs) work (filter (overlaps_stock path) old.rows) work.debris are.jobs
         (λ one among. (are.stocks one (filtered_contains (overlaps_stock path) old.rows one among).0).mark)
         ∙ ap (λ (rs : List Row). add_debris false (filter (leaves_debris work) rs) work.debris) (rows_overlapping path old.rows);
   })
@@ -307,9 +307,9 @@ module _ {D K : Type 0} (number command : ℕ) (stock : Stock) (request : Asked)
 
 -- what remains of the rows that overlap a path overlaps no debris
 pub may_remain : {D K : Type 0} (number : ℕ) (path : List (List ℕ)) (old : Parts D K) (work : WorkState) → IsWork number (book_in old).rows work →
-    AreWork old work → MayAllRemain (jobs_of old.jobs) (filter (overlaps_stock path) old.rows) old.debris.list
+    AreWork old work → MayAllRemain false (jobs_of old.jobs) (filter (overlaps_stock path) old.rows) old.debris.list
 may_remain number path old work rules are =
-    all_remain (jobs_of old.jobs) (filter (overlaps_stock path) old.rows) old.debris.list (apart_left (overlaps_stock path) old.rows rules.apart)
+    all_remain false (jobs_of old.jobs) (filter (overlaps_stock path) old.rows) old.debris.list (apart_left (overlaps_stock path) old.rows rules.apart)
     (λ one among remains.
     let there = (filtered_contains (overlaps_stock path) old.rows one among).0 in
     let leaves : leaves_debris work one.row ≡ true =
@@ -327,7 +327,7 @@ ruled_book number parts ruled =
 
 -- and what remains of the rows that overlap a path may become debris there
 pub ruled_remain : {D K : Type 0} (number : ℕ) (path : List (List ℕ)) (old : Parts D K) → AreRuled number old →
-    MayAllRemain (jobs_of old.jobs) (filter (overlaps_stock path) old.rows) old.debris.list
+    MayAllRemain false (jobs_of old.jobs) (filter (overlaps_stock path) old.rows) old.debris.list
 ruled_remain number path old ruled =
     may_remain number path old ruled.point.work
     (subst (λ r. IsWork number r ruled.point.work) (sym (ap (λ (b : Book). b.rows) ruled.stands.book))

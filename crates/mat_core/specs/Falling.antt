@@ -34,19 +34,20 @@ fall_of marks path stocks = record {
 abbrev pub is_remaining : List Job → Stock → Bool
 is_remaining jobs stock = (stock.row.stands || stock.dirty) && not (is_lent stock.row.path jobs)
 
--- debris with the part of a stock's row, if that remains, and with those of some
-abbrev pub with_remain : List Job → Stock → List Debris → List Debris
-with_remain jobs stock debris =
-    if is_remaining jobs stock then put_debris (record { path = stock.row.path; condemned = false }) debris else debris
+-- debris with the part of a stock's row, if that remains, and with those of some, condemned or not
+abbrev pub with_remain : Bool → List Job → Stock → List Debris → List Debris
+with_remain condemned jobs stock debris =
+    if is_remaining jobs stock then put_debris (record { path = stock.row.path; condemned = condemned }) debris else debris
 
-abbrev pub with_remains : List Job → List Stock → List Debris → List Debris
-with_remains jobs [] debris = debris
-with_remains jobs (stock ∷ stocks) debris = with_remains jobs stocks (with_remain jobs stock debris)
+abbrev pub with_remains : Bool → List Job → List Stock → List Debris → List Debris
+with_remains condemned jobs [] debris = debris
+with_remains condemned jobs (stock ∷ stocks) debris = with_remains condemned jobs stocks (with_remain condemned jobs stock debris)
 
 -- the part of a stock's row overlaps no debris, if it remains, and each of some doesn't, one after the other
 abbrev pub MayRemain : List Job → Stock → List Debris → Type 0
 MayRemain jobs stock debris = is_remaining jobs stock ≡ true → list_any (overlaps_debris stock.row.path) debris ≡ false
 
-abbrev pub MayAllRemain : List Job → List Stock → List Debris → Type 0
-MayAllRemain jobs [] debris = Unit {0}
-MayAllRemain jobs (stock ∷ stocks) debris = MayRemain jobs stock debris × MayAllRemain jobs stocks (with_remain jobs stock debris)
+abbrev pub MayAllRemain : Bool → List Job → List Stock → List Debris → Type 0
+MayAllRemain condemned jobs [] debris = Unit {0}
+MayAllRemain condemned jobs (stock ∷ stocks) debris =
+    MayRemain jobs stock debris × MayAllRemain condemned jobs stocks (with_remain condemned jobs stock debris)

@@ -20,3 +20,13 @@ pub mod Orders
 pub mod PutDown
 pub mod Begins
 pub mod Ending
+pub mod Keeping
+pub mod Fitting
+pub mod Recording
+pub mod Ends
+pub mod EndsTold
+pub mod Arming
+pub mod Cleans
+pub mod Removing
+pub mod Sweeping
+pub mod Flushing

@@ -8,7 +8,9 @@ use Rattle.mat_model.specs.declared.entries.Card.{Card}
 use Rattle.mat_model.specs.declared.entries.Task.{Task}
 use Rattle.mat_model.specs.declared.entries.Task.TheVariants as task
 use Rattle.mat_model.specs.WorkState.{path_of_task}
+use Rattle.mat_model.specs.Kept.{kept_row}
 use Rattle.model_laws.specs.WorkRules.{IsReadAtPaths}
+use Rattle.core_laws.specs.Stored.{IsReadable}
 use Rattle.write_plan.specs.Plans.{plan_of}
 use Rattle.row_bytes.specs.Rows.{row_bytes}
 use Rattle.row_book.specs.declared.stock.Stock.{Stock}
@@ -38,10 +40,11 @@ IsAimedAt stock lent aim.Nothing = ⊥
 IsAimedAt stock lent (aim.Tree tree way acts) =
     (tree ≡ stock.row.tree) × (way ≡ stock.method) × (acts.items ≡ plan_of stock.row.tree stock.method lent)
 
--- a row as the state store keeps it, by a core with an identity
+-- a row as the state store keeps it, by a core with an identity: it can be read back
 pub record IsBytesOf (identity : ℕ) (row : Row) (bytes : KeptBytes) : Type 0 where
   pub path : bytes.path.items ≡ joined row.path
   pub body : bytes.body.items ≡ row_bytes (Some identity) row.tree
+  pub readable : IsReadable (kept_row row)
 
 -- the same, where there is one
 abbrev pub AreBytesOf : ℕ → Row → Option KeptBytes → Type 0

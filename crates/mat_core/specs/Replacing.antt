@@ -1,5 +1,5 @@
 -- A new row that takes the place of those that overlap its path.
-use Rattle.std.specs.Prelude.{◌≡◌, ◌+◌, ◌*◌, ◌≤◌, nat_lt, ℕ, if◌then◌else◌, List, [], ◌∷◌, length, map, filter, Option, Some, None}
+use Rattle.std.specs.Prelude.{◌≡◌, ◌+◌, ◌*◌, ◌≤◌, nat_lt, ℕ, false, if◌then◌else◌, List, [], ◌∷◌, length, map, filter, Option, Some, None}
 use Rattle.mat_path.specs.Names.{is_prefix}
 use Rattle.mat_tree.specs.declared.flat.Flat.{Flat}
 use Rattle.mat_tree.specs.Trees.{bytes_of}
@@ -55,7 +55,7 @@ pub record IsReplaced {D K : Type 0} (number command : ℕ) (stock : Stock) (old
   pub holds : new.holds ≡ with_hold command stock.row.path old.holds
   pub tickets : new.tickets.all
       ≡ map (lost_below (top_in (filter (overlaps_stock stock.row.path) old.rows) stock.row.path) stock.row number) old.tickets.all
-  pub debris : new.debris.list ≡ with_remains (jobs_of old.jobs) (filter (overlaps_stock stock.row.path) old.rows) old.debris.list
+  pub debris : new.debris.list ≡ with_remains false (jobs_of old.jobs) (filter (overlaps_stock stock.row.path) old.rows) old.debris.list
   pub spare : 2 * length old.jobs ≤ new.debris.spare
   pub jobs : new.jobs ≡ old.jobs
   pub kept : new.kept ≡ old.kept

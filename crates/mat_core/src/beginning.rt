@@ -68,7 +68,7 @@ fn has_no_row(rows: &RowBook, path: &Path) -> bool
 }
 
 // How many of some paths have no row.
-fn count_alone(rows: &RowBook, paths: &[Path]) -> u64
+pub(crate) fn count_alone(rows: &RowBook, paths: &[Path]) -> u64
     ensures { result ≡ count_by (has_no_row rows.now) paths.now }
 {
     paths.iter().filter(|path| has_no_row(rows, path)).count() as u64

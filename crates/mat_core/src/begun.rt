@@ -53,8 +53,8 @@ fn lend<R: Region>(loan: Option<Loan<R>>) -> (Option<LentPart>, Option<ReadLoan<
     (Some(part), Some(ReadLoan::of(region, tree)))
 }
 
-// The region of a part that is read, if one is.
-fn region_of<R: Region>(read: Option<ReadLoan<R>>) -> Option<R>
+/// The region of a part that is read, if one is.
+pub(crate) fn region_of<R: Region>(read: Option<ReadLoan<R>>) -> Option<R>
     ensures { option_map (told_part ⟦<R as Region>⟧) result ≡ option_map (told_read ⟦<R as Region>⟧) read }
 {
     match read {

@@ -7,10 +7,13 @@ ghost use Rattle.job_book.specs.Jobs.{job_of};
 ghost use Rattle.mat_core.specs.Polls.{owner_of, poll_in};
 
 use crate::begins::Begun;
+use crate::ends::Finished;
 use crate::entering::place_of;
+use crate::keeping::asks_store;
 use crate::parts::Parts;
 use hall_lock::By;
 use job_book::Running;
+use job_run::Done;
 use keep_port::Keeper;
 use mat_model::{Answer, Book, Card, Entry, Reply, Request, Ticket};
 use mat_path::{Memory, Path};
@@ -68,6 +71,8 @@ impl<D: Disk, K: Keeper> Core<D, K> {
     ghost use Rattle.mat_core.specs.Cores.{IsSeen, point_in};
     ghost use Rattle.mat_core.specs.Begins.{BeginsTold};
     ghost use Rattle.core_devices.specs.Told.{ToldDisk, ToldStore, told_disk, told_store};
+    ghost use Rattle.mat_core.specs.EndsTold.{EndsTold, ReturnsRead};
+    ghost use Rattle.mat_core.specs.Keeping.{TellsStore, asks_store};
     ghost use Rattle.mat_core.specs.Served.{full_of, is_entered, is_want};
     ghost use Rattle.mat_model.specs.Gate.{gate_of};
     ghost use Rattle.mat_model.specs.Rows.{cover};
@@ -83,6 +88,7 @@ impl<D: Disk, K: Keeper> Core<D, K> {
     }
 
     /// Serves a request at a moment, and enters it in the history unless a limit would be passed or memory is wanting: then nothing changes.
+    /// An invalidation, a clean and a flush make at most one call, of the state store, before the book changes; no other request makes one.
     /// The leave of a command that is known and has no open ticket takes no memory.
     pub fn call(&mut self, by: By, now: u64, request: Request) -> Reply
         requires number { by.number ≡ count_by (is_of by.caller) self.old.history }
@@ -91,10 +97,14 @@ impl<D: Disk, K: Keeper> Core<D, K> {
         ensures base { self.new.base ≡ self.old.base }
         ensures history { self.new.history ≡ (if is_entered result then self.old.history ++ entry_of by (point_in self.new).book.now request result ∷ [] else self.old.history) }
         ensures disk { self.new.disk ≡ self.old.disk }
-        ensures keeper { self.new.keeper ≡ self.old.keeper }
+        ensures keeper { asks_store (request_asks request) ≡ false → self.new.keeper ≡ self.old.keeper }
+        ensures store { TellsStore result (told_store ⟦<K as Keeper>⟧ self.old.keeper) (told_store ⟦<K as Keeper>⟧ self.new.keeper) }
         ensures leave { is_free_leave (request_asks request) (point_in self.old).book ≡ true → is_want result ≡ false }
         ensures full { is_want result ≡ false → full_of result ≡ full_asked self.old.base.limits (point_in self.old) (max (point_in self.old).book.now now) (request_asks request) }
     {
+        if asks_store(&request) {
+            return self.parts.keep_asked(by, now, request);
+        }
         self.parts.call(by, now, request)
     }
 
@@ -106,6 +116,18 @@ impl<D: Disk, K: Keeper> Core<D, K> {
         ensures told { BeginsTold ⟦<D::R as Region>⟧ by (told_disk ⟦<D as Disk>⟧) (told_store ⟦<K as Keeper>⟧) self.old self.new result }
     {
         self.parts.begin(by)
+    }
+
+    /// A job that has ended comes back: its parts go back to the disk, then the row that it made is stored, if it made one that is there, and its end
+    /// is entered. It comes back once more, and nothing changes, where it isn't the job that the caller began under its number, where it made another
+    /// tree than its row has, or where the part that comes back with it isn't the one that was lent. Takes no memory.
+    pub fn done(&mut self, by: By, done: Done<D::R>) -> Finished<D::R>
+        requires number { by.number ≡ count_by (is_of by.caller) self.old.history }
+        requires read { ReturnsRead ⟦<D::R as Region>⟧ (told_disk ⟦<D as Disk>⟧) (told_store ⟦<K as Keeper>⟧) self.old by.caller done }
+        ensures base { self.new.base ≡ self.old.base }
+        ensures told { EndsTold ⟦<D::R as Region>⟧ by (told_disk ⟦<D as Disk>⟧) (told_store ⟦<K as Keeper>⟧) done self.old self.new result }
+    {
+        self.parts.done(by, done)
     }
 
     /// Where a command is. Takes no memory, as the calls below.

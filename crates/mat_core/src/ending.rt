@@ -90,8 +90,8 @@ fn end_of_wipe(outcome: Outcome) -> End
     }
 }
 
-// What comes of a task.
-fn end_of(rows: &RowBook, task: &Task, outcome: Outcome) -> End
+/// What comes of a task.
+pub(crate) fn end_of(rows: &RowBook, task: &Task, outcome: Outcome) -> End
     ensures { result ≡ end_of rows.now task.now outcome }
 {
     match task {

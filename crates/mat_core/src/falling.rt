@@ -22,7 +22,7 @@ pub struct Fall {
 }
 
 // Whether the state store has no row at a path.
-fn is_unkept(kept: &KeptBook, path: &Path) -> bool
+pub(crate) fn is_unkept(kept: &KeptBook, path: &Path) -> bool
     ensures { result ≡ is_unkept_at kept.now.marks path.now }
 {
     match kept.get(path) {
@@ -49,7 +49,7 @@ fn unkept_count(kept: &KeptBook, stock: &Stock) -> u64
 }
 
 // The path of a stock's row.
-fn path_of(stock: &Stock) -> &Path
+pub(crate) fn path_of(stock: &Stock) -> &Path
     ensures { result.now ≡ stock.now.row.path }
 {
     &stock.row.path
@@ -87,27 +87,32 @@ fn is_remaining(jobs: &JobBook, stock: &Stock) -> bool
     (stock.row.stands || stock.dirty) && !jobs.is_lent(&stock.row.path)
 }
 
-// What remains of a row that is gone becomes debris.
-fn add_remain(debris: &mut DebrisList, jobs: &JobBook, stock: Stock)
+// What remains of a row that is gone becomes debris, condemned or not.
+fn add_remain(debris: &mut DebrisList, jobs: &JobBook, stock: Stock, condemned: bool)
     requires room { 1 ≤ debris.old.spare }
     requires apart { MayRemain (jobs_of jobs.now) stock debris.old.list }
-    ensures list { debris.new.list ≡ with_remain (jobs_of jobs.now) stock debris.old.list }
+    ensures list { debris.new.list ≡ with_remain condemned (jobs_of jobs.now) stock debris.old.list }
     ensures spare { debris.old.spare ≤ debris.new.spare + 1 }
 {
     if is_remaining(jobs, &stock) {
-        debris.add(stock.row.path, false);
+        debris.add(stock.row.path, condemned);
     }
 }
 
-// What remains of rows that are gone becomes debris. Takes no memory.
-pub(crate) fn add_remains(debris: &mut DebrisList, jobs: &JobBook, removed: Vec<Stock>)
+// What remains of rows that are gone becomes debris, condemned or not. Takes no memory.
+pub(crate) fn add_remains(
+    debris: &mut DebrisList,
+    jobs: &JobBook,
+    removed: Vec<Stock>,
+    condemned: bool,
+)
     requires room { length removed.items ≤ debris.old.spare }
-    requires apart { MayAllRemain (jobs_of jobs.now) removed.items debris.old.list }
-    ensures list { debris.new.list ≡ with_remains (jobs_of jobs.now) removed.items debris.old.list }
+    requires apart { MayAllRemain condemned (jobs_of jobs.now) removed.items debris.old.list }
+    ensures list { debris.new.list ≡ with_remains condemned (jobs_of jobs.now) removed.items debris.old.list }
     ensures spare { debris.old.spare ≤ debris.new.spare + length removed.items }
 {
     let mut rest = VecDeque::from_vec(removed);
     'rows: while let Some(stock) = rest.pop_front() {
-        add_remain(debris, jobs, stock);
+        add_remain(debris, jobs, stock, condemned);
     }
 }

@@ -122,9 +122,11 @@ fn aim_at(alloc: Global, stock: &Stock, lent: bool) -> Result<Aim, Memory>
 }
 
 // A row as the state store keeps it, by a core with an identity.
+#[tactic(auto, using(crate::proofs::ReadyLemmas::written_readable))]
 fn kept_bytes(alloc: Global, row: &Row, identity: u64) -> Result<KeptBytes, Memory>
     ensures { IfOk result (λ bytes. IsBytesOf identity row.now bytes) }
 {
+    let _names = row.path.names();
     let path = row.path.write()?;
     let body = write_row(alloc, &row.tree, identity)?;
     Ok(KeptBytes { path, body })

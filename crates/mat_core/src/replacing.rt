@@ -104,7 +104,7 @@ impl<D, K> Parts<D, K> {
             path,
             number,
         );
-        add_remains(&mut self.debris, &self.jobs, removed);
+        add_remains(&mut self.debris, &self.jobs, removed, false);
         Ok(())
     }
 

@@ -1,4 +1,4 @@
-use Rattle.std.proofs.Common.{rules, ◌≡◌, ◌≤◌, ◌∙◌, filter, find, length, map, refl, sym, ap, ap₂, subst, arith}
+use Rattle.std.proofs.Common.{rules, false, ◌≡◌, ◌≤◌, ◌∙◌, filter, find, length, map, refl, sym, ap, ap₂, subst, arith}
 use Rattle.mat_model.specs.Tickets.{with_hold}
 use Rattle.model_laws.specs.TicketRules.{lost_below}
 use Rattle.job_book.specs.Jobs.{jobs_of}
@@ -15,8 +15,8 @@ answer_removed-requires g c =
 
 pub add_remains-requires-clause-apart : goal.add_remains-requires-clause-apart
 add_remains-requires-clause-apart g c =
-    subst (λ ss. MayAllRemain (jobs_of c.args.self.now.jobs) ss c.reserve.new.self.list) (sym c.in-Ok-place.ensures.removed)
-    (subst (λ ds. MayAllRemain (jobs_of c.args.self.now.jobs) (filter (overlaps_stock c.args.stock.row.path) c.args.self.now.rows) ds) (sym c.in-Ok.ensures.list)
+    subst (λ ss. MayAllRemain false (jobs_of c.args.self.now.jobs) ss c.reserve.new.self.list) (sym c.in-Ok-place.ensures.removed)
+    (subst (λ ds. MayAllRemain false (jobs_of c.args.self.now.jobs) (filter (overlaps_stock c.args.stock.row.path) c.args.self.now.rows) ds) (sym c.in-Ok.ensures.list)
     (ruled_remain c.args.number c.args.stock.row.path c.args.self.now c.requires.rules))
 
 pub returns-clause-replaced : goal.returns-clause-replaced
@@ -31,7 +31,7 @@ returns-clause-replaced g c = record {
       ∙ ap₂ (λ ss p. map (lost_below (top_in ss p) c.args.stock.row c.args.number) c.args.self.now.tickets.all)
       (c.as_slice.ensures.value ∙ c.in-Ok-place.ensures.removed) c.requires.path;
   debris = c.add_remains.ensures.list
-      ∙ ap₂ (λ ss ds. with_remains (jobs_of c.args.self.now.jobs) ss ds) c.in-Ok-place.ensures.removed c.in-Ok.ensures.list;
+      ∙ ap₂ (λ ss ds. with_remains false (jobs_of c.args.self.now.jobs) ss ds) c.in-Ok-place.ensures.removed c.in-Ok.ensures.list;
   spare =
       let gone : length c.in-Ok-place.removed.items ≡ length (filter (overlaps_stock c.args.stock.row.path) c.args.self.now.rows) =
       ap length c.in-Ok-place.ensures.removed in
