@@ -6,7 +6,7 @@ use Rattle.mat_model.specs.declared.answers.Recorded.TheVariants as recorded
 use Rattle.mat_model.specs.Legal.{note_recorded}
 use Rattle.keep_port.specs.Rows.{put_all}
 use Rattle.keep_port.specs.declared.row.RawRow.{RawRow}
-use Rattle.core_devices.specs.Removals.{IsStoreNote}
+use Rattle.core_devices.specs.Removals.{IsStoreCall, IsStoreNote}
 use Rattle.core_devices.specs.Told.{ToldStore}
 
 -- the rows once one was to be stored, by how that was recorded
@@ -35,3 +35,4 @@ pub record HasStored (row : RawRow) (how : Recorded) (old new : ToldStore) : Typ
   pub faults : old.faults ≤ new.faults
   pub note : IsStoreNote old.faults new.faults (note_recorded how)
   pub some : how ≡ recorded.Nothing → ⊥
+  pub called : IsStoreCall true (is_unkept how) (is_unwanted how) old new

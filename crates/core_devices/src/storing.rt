@@ -1,8 +1,7 @@
 // Rows are stored.
 ghost use Rattle.std.specs.Prelude.{◌≡◌, ◌∷◌, [], true};
 ghost use Rattle.keep_port.specs.declared.row.RawRow.{RawRow as TheRow};
-ghost use Rattle.core_devices.specs.Removals.{CallsStore};
-ghost use Rattle.core_devices.specs.Stores.{HasStored, is_unkept, is_unwanted};
+ghost use Rattle.core_devices.specs.Stores.{HasStored};
 ghost use Rattle.core_devices.specs.Told.{told_store};
 
 use keep_port::{Keeper, RawRow};
@@ -12,7 +11,6 @@ use mat_model::{Device, FaultNote, Recorded};
 /// Stores one row in one call of the state store, and says whether it took it.
 pub fn store_row<K: Keeper>(keeper: &mut K, row: RawRow) -> Recorded
     ensures stored { HasStored row result (told_store ⟦<K as Keeper>⟧ keeper.old) (told_store ⟦<K as Keeper>⟧ keeper.new) }
-    ensures calls { CallsStore true (K.watch keeper.old) (K.watch keeper.new) (is_unkept result) (is_unwanted result) }
 {
     let before = keeper.faults();
     match keeper.store_rows(&[row], &[]) {

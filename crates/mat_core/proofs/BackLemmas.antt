@@ -168,6 +168,7 @@ module _ {D K R : Type 0} (g : RegionGhosts R) (by : By) (came : Done R g) (old 
         still = (told_end (end_of old.rows whole.card.task came.outcome) whole.kept how store now_store is_end).still;
         faults = (told_end (end_of old.rows whole.card.task came.outcome) whole.kept how store now_store is_end).faults;
         note = (told_end (end_of old.rows whole.card.task came.outcome) whole.kept how store now_store is_end).note;
+        called = (told_end (end_of old.rows whole.card.task came.outcome) whole.kept how store now_store is_end).called;
       }
 
       -- the parts behind the entry

@@ -46,13 +46,14 @@ use Rattle.row_book.specs.declared.stock.Stock.{Stock}
 use Rattle.core_devices.specs.declared.taking.Source.{Source}
 use Rattle.core_devices.specs.Events.{read_at}
 use Rattle.core_devices.specs.Takes.{AreTaken, WereTaken, source_path}
-use Rattle.core_devices.specs.Removals.{HasRemoved, after_removal, are_some}
+use Rattle.core_devices.specs.Removals.{HasRemoved, IsStoreCall, after_removal, are_some}
 use Rattle.core_devices.specs.declared.removing.Removal.{Removal}
 use Rattle.core_devices.specs.declared.removing.Removal.TheVariants as removal
 use Rattle.core_devices.specs.Told.{ToldStore, told_disk, told_part}
 use Rattle.keep_port.specs.declared.row.RawRow.{RawRow}
 use Rattle.mat_core.specs.Beginning.{HaveNoLessRoom, HaveRoomFor, HaveSameBooks, IsBegunEntered, IsRefusedEntered, begin_entry, has_no_row, with_place, without_place}
 use Rattle.mat_core.specs.Begins.{AreStampsGone, DoesTask, HasJustBegun, IsEntered, IsKeptStill, IsLentFor, IsStill}
+use Rattle.mat_core.specs.Calls.{MayWant}
 use Rattle.mat_core.specs.Books.{StandFor}
 use Rattle.mat_core.specs.Orders.{AreBytesOf, AreReady, IsAimed, IsAimedAt, IsOrder, IsReadyFor, IsWiping, card_for, gone_for}
 use Rattle.mat_core.specs.PutDown.{IsFreeFor, IsJobFor, IsOutFor, IsPutDown, IsReadFor, IsWorkable, MayMake, aim_asks, aim_course, aim_tree, lent_from, told_read}
@@ -67,6 +68,7 @@ use Rattle.mat_core.proofs.OrderLemmas.{first_stock, order_free, order_reads}
 use Rattle.mat_core.proofs.PlaceLemmas.{reserved_more, reserved_put}
 use Rattle.mat_core.proofs.RefuseLemmas.{refused_served, refused_stands}
 use Rattle.mat_core.proofs.UndoLemmas.{again_books, last_goes, ready_same, undone_still}
+use Rattle.mat_core.proofs.StoreCalls.{wanted_call}
 
 -- the number of the next entry, by the parts that stand for a point
 pub number_is : {D K : Type 0} (parts : Parts D K) (point : Point) → StandFor parts point → parts.first + length parts.history.items ≡ next_number point
@@ -504,6 +506,14 @@ some_called paths said note failed none =
       | true ↦ λ is. refl
       | false ↦ λ is. absurd (let e : removal.Failed note ≡ removal.Done = sym failed ∙ is refl in cc)
     ] none
+
+-- a call that failed was made
+pub failed_call : (paths : List (List (List ℕ))) (note : FaultNote) (store now : ToldStore) → are_some paths ≡ true →
+    HasRemoved paths (removal.Failed note) store now → IsStoreCall true true false store now
+failed_call paths note store now some removed = subst (λ b. IsStoreCall b true false store now) some removed.called
+
+pub wanting_call : (paths : List (List (List ℕ))) (store now : ToldStore) → HasRemoved paths removal.NoMemory store now → MayWant store now
+wanting_call paths store now removed = wanted_call (are_some paths) store now removed.called
 
 -- and those are kept rows that overlap the path of the task
 pub gone_overlap : {D K : Type 0} (parts : Parts D K) (point : Point) (begun : Task) → StandFor parts point → are_some (gone_for parts begun) ≡ true →

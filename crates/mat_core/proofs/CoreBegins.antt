@@ -37,7 +37,7 @@ use Rattle.core_laws.proofs.StoreSteps.{listed_dropped}
 use Rattle.kept_book.specs.Marks.{mark_of, overlaps_mark, path_of_mark}
 use Rattle.job_book.specs.Jobs.{jobs_of}
 use Rattle.core_devices.specs.Events.{HasLent, read_at}
-use Rattle.core_devices.specs.Removals.{IsStoreNote}
+use Rattle.core_devices.specs.Removals.{IsStoreCall, IsStoreNote, are_some}
 use Rattle.core_devices.specs.Takes.{AreTaken, less_at, less_rough_at, listed}
 use Rattle.core_devices.specs.Told.{ToldDisk, ToldPart, ToldStore}
 use Rattle.mat_core.specs.Beginning.{begin_entry}
@@ -246,6 +246,8 @@ module _ {D K : Type 0} (told : D → ToldDisk) (stored : K → ToldStore) (old 
     rows = is.rows ∙ ap (λ (ps : List (List (List ℕ))). option_map (λ rows. remove_all rows ps) (stored old.keeper).rows)
         (gone_same old the_point is.what core.stands);
     faults = is.faults;
+    called = subst (λ (ps : List (List (List ℕ))). IsStoreCall (are_some ps) false false (stored old.keeper) (stored new.keeper))
+        (gone_same old the_point is.what core.stands) is.called;
   }
   begins_told g begun.Idle is = (is.0, ap seen_of is.1)
   begins_told g (begun.Refused note) is = record {
@@ -255,9 +257,10 @@ module _ {D K : Type 0} (told : D → ToldDisk) (stored : K → ToldStore) (old 
     again = is.again;
     still = is.still;
     note = is.note;
+    called = is.called;
   }
   begins_told g begun.Full is = (is.0, sym room_is ∙ is.1, ap seen_of is.2)
-  begins_told g begun.NoMemory is = record { history = is.still.history; again = is.again; still = is.kept }
+  begins_told g begun.NoMemory is = record { history = is.still.history; again = is.again; still = is.kept; called = is.called }
 
   -- what a core began with stays
   pub begin_keeps_base : {R : Type 0} (g : RegionGhosts R) (result : Begun R) →

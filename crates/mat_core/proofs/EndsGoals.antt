@@ -33,15 +33,17 @@ use Rattle.core_laws.proofs.StoreSteps.{told_change}
 use Rattle.row_book.specs.declared.stock.Stock.{Stock}
 use Rattle.row_book.specs.Stocks.{row_of, rows_of, stock_at}
 use Rattle.job_book.specs.declared.running.KeptBytes.{KeptBytes}
-use Rattle.core_devices.specs.Removals.{IsStoreNote}
-use Rattle.core_devices.specs.Stores.{after_storing}
+use Rattle.core_devices.specs.Removals.{IsStoreCall, IsStoreNote}
+use Rattle.core_devices.specs.Stores.{after_storing, is_unkept, is_unwanted}
 use Rattle.core_devices.specs.Told.{ToldStore}
+use Rattle.mat_core.specs.Calls.{is_stored_call}
 use Rattle.mat_core.specs.Ending.{IsRecordedFor, done_entry, end_made, end_of, end_of_make, end_of_wipe, is_fresh, is_made, reply_ended}
 use Rattle.mat_core.specs.Orders.{AreBytesOf, IsReadyFor}
 use Rattle.mat_core.specs.Recording.{HasRecorded, IsRecordedEnd, raw_of_bytes}
 use Rattle.mat_core.specs.declared.ending.End.{End}
 use Rattle.mat_core.specs.declared.ending.End.TheVariants as end
 use Rattle.mat_core.proofs.EndLemmas.{nothing_is}
+use Rattle.mat_core.proofs.StoreCalls.{never_called}
 
 -- ---- its entry
 
@@ -91,6 +93,7 @@ pub record IsToldSo (how : Recorded) (store now : ToldStore) : Type 0 where
   pub still : leaves_by how ≡ true → now.rows ≡ store.rows
   pub faults : store.faults ≤ now.faults
   pub note : IsStoreNote store.faults now.faults (note_recorded how)
+  pub called : IsStoreCall (is_stored_call how) (is_unkept how) (is_unwanted how) store now
 
 told_stored : (kept : Option KeptBytes) (last : ℕ) (how : Recorded) (store now : ToldStore) → HasRecorded kept last how store now → IsToldSo how store now
 told_stored None last how store now is = absurd is
@@ -98,13 +101,22 @@ told_stored (Some bytes) last how store now is = record {
   still = λ leaves. is.rows ∙ left_by how (raw_of_bytes bytes last) store.rows leaves;
   faults = is.faults;
   note = is.note;
+  called = by_how how is.some is.called;
 }
+  where
+    by_how : (how : Recorded) → (how ≡ recorded.Nothing → ⊥) → IsStoreCall true (is_unkept how) (is_unwanted how) store now →
+        IsStoreCall (is_stored_call how) (is_unkept how) (is_unwanted how) store now
+    by_how recorded.Kept some called = called
+    by_how (recorded.NotKept note) some called = called
+    by_how recorded.NoMemory some called = called
+    by_how recorded.Nothing some called = absurd (some refl)
 
 told_none : (how : Recorded) (store now : ToldStore) → (how ≡ recorded.Nothing) × (now ≡ store) → IsToldSo how store now
 told_none how store now is = record {
   still = λ leaves. ap (λ (s : ToldStore). s.rows) is.1;
   faults = let same = ap (λ (s : ToldStore). s.faults) is.1 in omega (arith, same);
   note = subst (λ (h : Recorded). IsStoreNote store.faults now.faults (note_recorded h)) (sym is.0) tt;
+  called = subst (λ (h : Recorded). IsStoreCall (is_stored_call h) (is_unkept h) (is_unwanted h) store now) (sym is.0) (never_called store now is.1);
 }
 
 pub told_end : (ending : End) (kept : Option KeptBytes) (how : Recorded) (store now : ToldStore) → IsRecordedEnd ending kept how store now → IsToldSo how store now

@@ -1,6 +1,6 @@
 -- A flush: the rows that are due, their marks, and the point behind its entry.
-use Rattle.std.proofs.Common.{◌≡◌, ◌≤◌, ◌+◌, ℕ, Bool, true, false, ◌&&◌, cond, max, nat_lt, List, [], ◌∷◌, ◌++◌, map, filter, length, Contains, Option, Some, None, refl, sym, ap, ap₂, subst, ◌∙◌, arith, length-append}
-use Rattle.std.specs.Option.{ForSome, option_map}
+use Rattle.std.proofs.Common.{◌≡◌, ◌≤◌, ◌+◌, ℕ, Bool, true, false, not, ◌&&◌, cond, max, nat_lt, List, [], ◌∷◌, ◌++◌, map, filter, length, Contains, Option, Some, None, refl, sym, ap, ap₂, subst, ◌∙◌, arith, length-append}
+use Rattle.std.specs.Option.{ForSome, is_some, option_map}
 use Rattle.std.specs.Vec.{vec_capacity}
 use Rattle.std.proofs.lemmas.Bool.{both_ways, false_from_ne_true}
 use Rattle.std.proofs.lemmas.List.{length-map}
@@ -52,6 +52,7 @@ use Rattle.mat_core.specs.declared.flushing.Storing.{Storing}
 use Rattle.mat_core.specs.declared.flushing.Storing.TheVariants as storing
 use Rattle.mat_core.specs.declared.parts.Parts.{Parts}
 use Rattle.mat_core.specs.Begins.{IsKeptStill, IsStill}
+use Rattle.mat_core.specs.Calls.{MayCall, MayWant}
 use Rattle.mat_core.specs.Books.{AreWork, StandFor, book_in}
 use Rattle.mat_core.specs.Keeping.{AsksSo, WasAsked, asked_entry, moment_at}
 use Rattle.mat_core.specs.Replacing.{AreRuled}
@@ -60,6 +61,7 @@ use Rattle.mat_core.proofs.BeginLemmas.{same_book}
 use Rattle.mat_core.proofs.ServeLemmas.{entries_alone, no_table, own_stamps, spent_same, work_stays}
 use Rattle.mat_core.proofs.UndoLemmas.{ready_same}
 use Rattle.mat_core.proofs.DueLemmas.{due_held, due_same, job_unused, marks_stored, others_left, put_same, some_due, touched_same}
+use Rattle.mat_core.proofs.StoreCalls.{wanted_call}
 
 -- ---- parts that a flush leaves
 
@@ -141,6 +143,10 @@ pub stored_none : (puts : List RawRow) (touches : List Touch) (store now_store :
     IsKeptStill store now_store
 stored_none puts touches store now_store stored = record { rows = stored.rows ∙ same_rows store.rows; faults = stored.faults }
 
+pub stored_wanting : (puts : List RawRow) (touches : List Touch) (store now_store : ToldStore) → HasStoredAll puts touches storing.NoMemory store now_store →
+    MayWant store now_store
+stored_wanting puts touches store now_store stored = wanted_call (not (is_idle puts touches)) store now_store stored.called
+
 -- room for an entry, beside all that are spent
 pub flush_room : {D K : Type 0} (old : Parts D K) (history : Vec Entry Global) (owed : ℕ) → owed + length old.history.items ≡ spent_in old →
     history.items ≡ old.history.items → length history.items + (owed + 2) ≤ vec_capacity history → spent_in old + 2 ≤ vec_capacity history
@@ -220,22 +226,22 @@ flush_full old point moment stands roomy =
 
 -- a flush that isn't entered, as it is answered
 pub left_full : {D K : Type 0} (point : Point) (by : By) (now : ℕ) (old new : Parts D K) (store now_store : ToldStore) → HasReserves old → IsFlushLeft old new →
-    IsKeptStill store now_store → StandFor old point → IsRoomy old.base.limits point →
+    IsKeptStill store now_store → MayWant store now_store → StandFor old point → IsRoomy old.base.limits point →
     nat_lt old.base.limits.history (spent_in old + 1) ≡ true → AsksSo point by now asked.Flush old new store now_store (reply.Full limit.History)
-left_full point by now old new store now_store had left kept stands roomy lacks = record {
+left_full point by now old new store now_store had left kept called stands roomy lacks = record {
   recorded = λ happened. tt;
   entered = λ is. absurd (both_ways false refl is);
-  unchanged = λ is. record { still = still_left old new left had; disk = left.beside.disk; kept = kept };
+  unchanged = λ is. record { still = still_left old new left had; disk = left.beside.disk; kept = kept; called = called };
   full = λ not_want.
       sym (flush_full old point (moment_at point now) stands roomy ∙ ap (λ b. cond {A = Option Limit} b (Some limit.History) None) lacks);
 }
 
 pub left_want : {D K : Type 0} (point : Point) (by : By) (now : ℕ) (old new : Parts D K) (store now_store : ToldStore) → HasReserves old → IsFlushLeft old new →
-    IsKeptStill store now_store → AsksSo point by now asked.Flush old new store now_store reply.NoMemory
-left_want point by now old new store now_store had left kept = record {
+    IsKeptStill store now_store → MayWant store now_store → AsksSo point by now asked.Flush old new store now_store reply.NoMemory
+left_want point by now old new store now_store had left kept called = record {
   recorded = λ happened. tt;
   entered = λ is. absurd (both_ways false refl is);
-  unchanged = λ is. record { still = still_left old new left had; disk = left.beside.disk; kept = kept };
+  unchanged = λ is. record { still = still_left old new left had; disk = left.beside.disk; kept = kept; called = called };
   full = λ not_want. absurd (both_ways true not_want refl);
 }
 
@@ -323,8 +329,9 @@ module _ {D K : Type 0} (point : Point) (by : By) (now : ℕ) (said : Reply) (ol
       filter (is_alone point.book.rows) (kept_asked asked.Flush said point.book.rows point.kept) ≡ filter (is_alone point.book.rows) point.kept →
       (ForSome store.rows (IsStore old.base.identity point.kept) → ForSome now_store.rows (IsStore old.base.identity (after point (entry_of point by now said)).kept)) →
       (leaves_kept said ≡ true → now_store.rows ≡ store.rows) → store.faults ≤ now_store.faults →
-      IsStoreNote store.faults now_store.faults (note_of said) → WasAsked point by now asked.Flush said old new store now_store
-  entry_asked store now_store served work marks alone rows still faults note = record {
+      IsStoreNote store.faults now_store.faults (note_of said) → MayCall (is_some (note_of said)) store now_store →
+      WasAsked point by now asked.Flush said old new store now_store
+  entry_asked store now_store served work marks alone rows still faults note called = record {
     same = record { base = entered.beside.base; lost = entered.beside.lost };
     disk = entered.beside.disk;
     replied = sym (ap (λ (s : Served). s.reply) served);
@@ -337,6 +344,7 @@ module _ {D K : Type 0} (point : Point) (by : By) (now : ℕ) (said : Reply) (ol
     still = still;
     faults = faults;
     note = note;
+    called = called;
   }
 
 module _ {D K : Type 0} (point : Point) (by : By) (now : ℕ) (old new : Parts D K) (store now_store : ToldStore) (due_now : Due)
@@ -413,7 +421,8 @@ module _ {D K : Type 0} (point : Point) (by : By) (now : ℕ) (old new : Parts D
           flushed_marks
           (alone_stored point.book.rows (filter (is_due point.kept) point.book.rows) point.kept
           (λ row among. (filtered_contains (is_due point.kept) point.book.rows row among).0))
-          flushed_rows (λ leaves. absurd (both_ways false refl leaves)) stored.faults tt;
+          flushed_rows (λ leaves. absurd (both_ways false refl leaves)) stored.faults tt
+          (record { made = not (is_idle due_now.puts.items due_now.touches.items); called = stored.called });
       unchanged = λ is. absurd (both_ways true is refl);
       full = λ not_want. no_full;
     }
@@ -450,7 +459,8 @@ module _ {D K : Type 0} (point : Point) (by : By) (now : ℕ) (old new : Parts D
           subst (λ ks. ForSome now_store.rows (IsStore old.base.identity ks))
           (sym (entry_leaves point (entry_of point by now (reply.Fault note)) (ap (λ (s : Served). leaves_kept s.reply) failed_served)))
           (subst (λ o. ForSome o (IsStore old.base.identity point.kept)) (sym rows_stay) has))
-          (λ leaves. rows_stay) stored.faults stored.note;
+          (λ leaves. rows_stay) stored.faults stored.note
+          (record { made = not (is_idle due_now.puts.items due_now.touches.items); called = stored.called });
       unchanged = λ is. absurd (both_ways true is refl);
       full = λ not_want. no_full;
     }

@@ -1,6 +1,6 @@
 -- A path that is invalidated: what the model serves, the point behind its entry, and the room for it.
 use Rattle.std.proofs.Common.{◌≡◌, ◌≤◌, ◌+◌, ◌*◌, ℕ, max, nat_lt, true, false, cond, List, [], ◌∷◌, ◌++◌, map, filter, length, count_by, Contains, Option, Some, None, refl, sym, ap, ap₂, subst, ◌∙◌, le_refl, arith}
-use Rattle.std.specs.Option.{ForSome, option_map}
+use Rattle.std.specs.Option.{ForSome, is_some, option_map}
 use Rattle.std.specs.Vec.{vec_capacity}
 use Rattle.std.specs.declared.alloc.Global.{Global}
 use Rattle.std.specs.declared.vec.Vec.{Vec}
@@ -53,6 +53,7 @@ use Rattle.kept_book.specs.Marks.{is_clear_mark, mark_of, overlaps_mark, path_of
 use Rattle.kept_book.proofs.LawLemmas.{clear_in_step}
 use Rattle.mat_core.specs.Beginning.{HaveOnlyRoom, has_no_row}
 use Rattle.mat_core.specs.Begins.{IsKeptStill, IsStill}
+use Rattle.mat_core.specs.Calls.{MayCall, MayWant}
 use Rattle.mat_core.specs.Books.{AreWork, IsPart, StandFor, book_in}
 use Rattle.mat_core.specs.Cores.{AreLimits}
 use Rattle.mat_core.specs.Falling.{is_unkept}
@@ -69,6 +70,7 @@ use Rattle.mat_core.proofs.RemoveLemmas.{paths_left, ready_left, removed_chosen,
 use Rattle.mat_core.proofs.ServeLemmas.{own_stamps, work_stays}
 use Rattle.mat_core.proofs.UndoLemmas.{only_room, ready_same}
 use Rattle.mat_core.proofs.OverlapLemmas.{answer_dead, answer_failed, answer_live, calm, cleared, gone_not_at, invalid_room, no_more}
+use Rattle.mat_core.proofs.StoreCalls.{never_asked, never_wanted, wanted_call}
 
 -- ---- an entry that changes nothing but the moment
 
@@ -185,8 +187,9 @@ module _ {D K : Type 0} (gk : KeeperGhosts K) (by : By) (now command : ℕ) (pat
 
     pub calm_asked : IsKeptStill (told_store gk old.keeper) (told_store gk keeper) →
         IsStoreNote (gk.fault_count old.keeper) (gk.fault_count keeper) (note_of said) →
+        MayCall (is_some (note_of said)) (told_store gk old.keeper) (told_store gk keeper) →
         WasAsked point by now (asked.Invalidate command path) said old calm_new (told_store gk old.keeper) (told_store gk keeper)
-    calm_asked still note = record {
+    calm_asked still note called = record {
       same = record { base = only.same.base; lost = only.same.lost };
       disk = only.disk;
       replied = sym (ap (λ (s : Served). s.reply) answered);
@@ -203,6 +206,7 @@ module _ {D K : Type 0} (gk : KeeperGhosts K) (by : By) (now command : ℕ) (pat
       still = λ leaves. still.rows;
       faults = still.faults;
       note = note;
+      called = called;
     }
 
 -- ---- an entry by which rows are gone
@@ -392,9 +396,9 @@ module _ {D K : Type 0} (gk : KeeperGhosts K) (by : By) (now command : ℕ) (pat
     kept_is = ap (λ (s : Served). kept_asked (asked.Invalidate command path) s.reply s.book.rows point.kept) answered
 
     pub cleared_asked : (now_keeper : K) → gk.kept now_keeper ≡ option_map (λ rows. remove_all rows (gone_marks path old.kept.marks)) (gk.kept old.keeper) →
-        gk.fault_count old.keeper ≤ gk.fault_count now_keeper →
+        gk.fault_count old.keeper ≤ gk.fault_count now_keeper → MayCall false (told_store gk old.keeper) (told_store gk now_keeper) →
         WasAsked point by now (asked.Invalidate command path) (reply.Invalid n) old cleared_new (told_store gk old.keeper) (told_store gk now_keeper)
-    cleared_asked now_keeper rows faults = record {
+    cleared_asked now_keeper rows faults called = record {
       same = record { base = is.beside.base ∙ only.same.base; lost = is.beside.lost ∙ only.same.lost };
       disk = is.beside.disk ∙ only.disk;
       replied = ap reply.Invalid count_is ∙ sym (ap (λ (s : Served). s.reply) answered);
@@ -415,6 +419,7 @@ module _ {D K : Type 0} (gk : KeeperGhosts K) (by : By) (now command : ℕ) (pat
       still = λ leaves. absurd (both_ways false refl leaves);
       faults = faults;
       note = tt;
+      called = called;
     }
 
 -- ---- what the request did
@@ -505,11 +510,12 @@ grown_place old history entries items owed place =
 -- nothing was entered, for want of memory
 pub wanted_so : {D K : Type 0} (gk : KeeperGhosts K) (by : By) (now : ℕ) (asking : Asked) (old roomy : Parts D K) (keeper : K) (point : Point) →
     HasReserves old → HaveOnlyRoom old roomy → IsKeptStill (told_store gk old.keeper) (told_store gk keeper) →
+    MayWant (told_store gk old.keeper) (told_store gk keeper) →
     AsksSo point by now asking old (record roomy { keeper = keeper }) (told_store gk old.keeper) (told_store gk keeper) reply.NoMemory
-wanted_so gk by now asking old roomy keeper point had only kept = record {
+wanted_so gk by now asking old roomy keeper point had only kept called = record {
   recorded = λ happened. tt;
   entered = λ is. absurd (both_ways false refl is);
-  unchanged = λ is. record { still = room_still old roomy keeper only had; disk = only.disk; kept = kept };
+  unchanged = λ is. record { still = room_still old roomy keeper only had; disk = only.disk; kept = kept; called = called };
   full = λ is. absurd (both_ways true is refl);
 }
 
@@ -527,6 +533,7 @@ full_so gk by now asking which old roomy point had only full = record {
       rows = ap (λ k. gk.kept k) only.keeper;
       faults = subst (λ k. gk.fault_count old.keeper ≤ gk.fault_count k) (sym only.keeper) (le_refl (gk.fault_count old.keeper));
     };
+    called = never_wanted (told_store gk old.keeper) (told_store gk roomy.keeper) (ap (told_store gk) only.keeper);
   };
   full = λ is. full;
 }
@@ -563,6 +570,7 @@ asked_grown by now asking said old new history store now_store point items capac
         still = was.still;
         faults = was.faults;
         note = was.note;
+        called = was.called;
       };
   unchanged = λ is.
       let was = so.unchanged is in record {
@@ -576,6 +584,7 @@ asked_grown by now asking said old new history store now_store point items capac
         };
         disk = was.disk;
         kept = was.kept;
+        called = was.called;
       };
   full = so.full;
 }
@@ -606,7 +615,7 @@ module _ {D K : Type 0} (gk : KeeperGhosts K) (by : By) (now command : ℕ) (pat
       (calm_asked gk by now command path old roomy keeper point stands rules roomy_for had only place fits reply.NotLive dead_calm new.moment new.history
       entered.moment entered.history entered.capacity
       (answer_dead point (moment_at point now) command path (subst (λ (b : Book). is_live command b ≡ false) stands.book dead))
-      (same_keeper gk old.keeper keeper same) tt))
+      (same_keeper gk old.keeper keeper same) tt (never_asked (told_store gk old.keeper) (told_store gk keeper) (ap (told_store gk) same))))
 
   module _ (live : is_live command (book_in old) ≡ true) (paths : List (List (List ℕ))) (are : paths ≡ gone_marks path old.kept.marks) where
     -- the state store failed
@@ -626,7 +635,8 @@ module _ {D K : Type 0} (gk : KeeperGhosts K) (by : By) (now command : ℕ) (pat
         new.history entered.moment entered.history entered.capacity
         (answer_failed point (moment_at point now) command path note some (subst (λ (b : Book). is_live command b ≡ true) stands.book live)
         (ap (λ n. n.device) from_old.note.0))
-        (failed_still paths note (told_store gk old.keeper) (told_store gk keeper) from_old) from_old.note))
+        (failed_still paths note (told_store gk old.keeper) (told_store gk keeper) from_old) from_old.note
+        (record { made = are_some paths; called = from_old.called })))
 
     -- memory was wanting
     pub wanting_so : HasRemoved paths removal.NoMemory (told_store gk roomy.keeper) (told_store gk keeper) →
@@ -636,6 +646,8 @@ module _ {D K : Type 0} (gk : KeeperGhosts K) (by : By) (now command : ℕ) (pat
         wanted_so gk by now (asked.Invalidate command path) old roomy keeper point had only
         (subst (λ k. IsKeptStill (told_store gk k) (told_store gk keeper)) only.keeper
         (wanted_still paths (told_store gk roomy.keeper) (told_store gk keeper) removed))
+        (subst (λ k. MayWant (told_store gk k) (told_store gk keeper)) only.keeper
+        (wanted_call (are_some paths) (told_store gk roomy.keeper) (told_store gk keeper) removed.called))
 
     -- the rows are gone
     pub done_so : (done : Parts D K) (n : ℕ) → AreCleared (roomy.first + length roomy.history.items) path (record roomy { keeper = keeper }) done →
@@ -654,4 +666,5 @@ module _ {D K : Type 0} (gk : KeeperGhosts K) (by : By) (now command : ℕ) (pat
         (record done { moment = new.moment; history = new.history }) (told_store gk old.keeper) (told_store gk k)) (sym is.beside.keeper)
         (cleared_asked gk by now command path old roomy keeper point stands rules roomy_for had only place fits live done is new.moment n new.history
         entered.moment counted entered.history entered.capacity spare keeper
-        (from_old.rows ∙ ap (λ ps. option_map (λ rows. remove_all rows ps) (gk.kept old.keeper)) are) from_old.faults)))
+        (from_old.rows ∙ ap (λ ps. option_map (λ rows. remove_all rows ps) (gk.kept old.keeper)) are) from_old.faults
+        (record { made = are_some paths; called = from_old.called }))))

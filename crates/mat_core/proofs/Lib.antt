@@ -43,6 +43,7 @@ pub mod ReserveLemmas
 pub mod RightLemmas
 pub mod ServeLemmas
 pub mod StartLemmas
+pub mod StoreCalls
 pub mod SweepLemmas
 pub mod SweepLists
 pub mod TestLemmas

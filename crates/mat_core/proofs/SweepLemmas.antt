@@ -53,6 +53,7 @@ use Rattle.job_book.specs.declared.running.Running.{Running}
 use Rattle.kept_book.specs.Marks.{is_mark_unlisted, mark_of}
 use Rattle.mat_core.specs.Beginning.{HaveOnlyRoom}
 use Rattle.mat_core.specs.Begins.{IsKeptStill}
+use Rattle.mat_core.specs.Calls.{MayWant}
 use Rattle.mat_core.specs.Books.{AreWork, IsPart, StandFor, book_in}
 use Rattle.mat_core.specs.Cleans.{gone_in, kept_among}
 use Rattle.mat_core.specs.Falling.{is_unkept, with_remains}
@@ -70,6 +71,7 @@ use Rattle.mat_core.proofs.InvalidateLemmas.{entered_so, stand_beside, wanted_so
 use Rattle.mat_core.proofs.RemoveLemmas.{marked_jobs, paths_left, ready_left, removed_chosen, work_removed}
 use Rattle.mat_core.proofs.UndoLemmas.{ready_same}
 use Rattle.mat_core.proofs.SweepLists.{among_dropped, mark_one, marked_each, marks_left, parts_marked, some_among}
+use Rattle.mat_core.proofs.StoreCalls.{wanted_call}
 
 -- ---- what the model serves
 
@@ -306,7 +308,8 @@ module _ {D K : Type 0} (gk : KeeperGhosts K) (by : By) (now cutoff : ℕ) (all 
         (record { cleaning = refl; ways = λ rows ways. refl; keeps = λ rows kept. refl; nodes = λ book. refl }) new.moment new.history entered.moment
         entered.history entered.capacity
         (answer_unswept all point (moment_at point now) cutoff note some (ap (λ n. n.device) from_old.note.0))
-        (failed_still paths note (told_store gk old.keeper) (told_store gk keeper) from_old) from_old.note))
+        (failed_still paths note (told_store gk old.keeper) (told_store gk keeper) from_old) from_old.note
+        (record { made = are_some paths; called = from_old.called })))
 
     -- memory was wanting
     pub unwanted_so : HasRemoved paths removal.NoMemory (told_store gk roomy.keeper) (told_store gk keeper) →
@@ -315,6 +318,8 @@ module _ {D K : Type 0} (gk : KeeperGhosts K) (by : By) (now cutoff : ℕ) (all 
         wanted_so gk by now request old roomy keeper point had only
         (subst (λ k. IsKeptStill (told_store gk k) (told_store gk keeper)) only.keeper
         (wanted_still paths (told_store gk roomy.keeper) (told_store gk keeper) removed))
+        (subst (λ k. MayWant (told_store gk k) (told_store gk keeper)) only.keeper
+        (wanted_call (are_some paths) (told_store gk roomy.keeper) (told_store gk keeper) removed.called))
 
     -- the rows are gone
     module _ (done : Parts D K) (at : List (List (List ℕ))) (is : AreSwept all paths at (record roomy { keeper = keeper }) done)
@@ -461,6 +466,7 @@ module _ {D K : Type 0} (gk : KeeperGhosts K) (by : By) (now cutoff : ℕ) (all 
         still = λ leaves. absurd (both_ways false refl leaves);
         faults = from_old.faults;
         note = tt;
+        called = record { made = are_some paths; called = from_old.called };
       }
 
       pub swept_so : AsksSo point by now request old new (told_store gk old.keeper) (told_store gk new.keeper) said

@@ -24,9 +24,10 @@ use Rattle.job_run.specs.Asking.{asks_of}
 use Rattle.job_run.specs.Courses.{make_course, wipe_course}
 use Rattle.job_run.specs.Views.{Seen, asks_left, is_over, job_card, job_course, job_fetching, job_goal, job_loan, job_region}
 use Rattle.core_devices.specs.Events.{HasAgain, read_at}
-use Rattle.core_devices.specs.Removals.{IsStoreNote}
+use Rattle.core_devices.specs.Removals.{IsStoreCall, IsStoreNote, are_some}
 use Rattle.core_devices.specs.Takes.{AreTaken}
 use Rattle.core_devices.specs.Told.{ToldDisk, ToldStore, told_part}
+use Rattle.mat_core.specs.Calls.{MayWant}
 use Rattle.mat_core.specs.Beginning.{begin_entry}
 use Rattle.mat_core.specs.Books.{StandFor, is_same_stamp, way_in}
 use Rattle.mat_core.specs.Cores.{point_in}
@@ -120,6 +121,7 @@ pub record HasStarted {D K R : Type 0} (g : RegionGhosts R) (point : Point) (by 
   pub begun : HasJustBegun g point what disk now_disk job
   pub rows : now_store.rows ≡ option_map (λ rows. remove_all rows (gone_for old what)) store.rows
   pub faults : store.faults ≤ now_store.faults
+  pub called : IsStoreCall (are_some (gone_for old what)) false false store now_store
 
 -- it was refused, since the state store failed to remove kept rows that overlap its path
 pub record WasRefused {D K : Type 0} (point : Point) (by : By) (old new : Parts D K) (disk now_disk : ToldDisk) (store now_store : ToldStore)
@@ -130,12 +132,14 @@ pub record WasRefused {D K : Type 0} (point : Point) (by : By) (old new : Parts 
   pub again : HasAgain disk now_disk
   pub still : IsKeptStill store now_store
   pub note : IsStoreNote store.faults now_store.faults (Some noted)
+  pub called : IsStoreCall true true false store now_store
 
 -- it was given up for want of memory
 pub record WasGivenUp {D K : Type 0} (old new : Parts D K) (disk now_disk : ToldDisk) (store now_store : ToldStore) : Type 0 where
   pub still : IsStill old new
   pub again : HasAgain disk now_disk
   pub kept : IsKeptStill store now_store
+  pub called : MayWant store now_store
 
 -- what a begin did, by what it answered
 abbrev pub BeginsSo : {D K R : Type 0} → RegionGhosts R → Point → By → Parts D K → Parts D K → ToldDisk → ToldDisk → ToldStore → ToldStore →
@@ -167,6 +171,8 @@ pub record TellsStarted {D K R : Type 0} (g : RegionGhosts R) (by : By) (old new
   pub begun : HasJustBegun g (point_in old) what disk now_disk job
   pub rows : now_store.rows ≡ option_map (λ rows. remove_all rows (gone_at (point_in old) what)) store.rows
   pub faults : store.faults ≤ now_store.faults
+  -- it was called once where there were such rows, and else not
+  pub called : IsStoreCall (are_some (gone_at (point_in old) what)) false false store now_store
 
 -- it was refused, since the state store failed to remove kept rows that overlap its path: the devices have what they had
 pub record TellsRefused {D K : Type 0} (by : By) (old new : Core D K) (disk now_disk : ToldDisk) (store now_store : ToldStore) (noted : FaultNote) :
@@ -177,12 +183,14 @@ pub record TellsRefused {D K : Type 0} (by : By) (old new : Core D K) (disk now_
   pub again : HasAgain disk now_disk
   pub still : IsKeptStill store now_store
   pub note : IsStoreNote store.faults now_store.faults (Some noted)
+  pub called : IsStoreCall true true false store now_store
 
 -- it was given up for want of memory: nothing is entered, and the devices have what they had
 pub record TellsGivenUp {D K : Type 0} (old new : Core D K) (disk now_disk : ToldDisk) (store now_store : ToldStore) : Type 0 where
   pub history : new.history ≡ old.history
   pub again : HasAgain disk now_disk
   pub still : IsKeptStill store now_store
+  pub called : MayWant store now_store
 
 -- what contracts see of what a begin did, by what it answered, where a disk and a state store tell what they have
 abbrev pub BeginsTold : {D K R : Type 0} → RegionGhosts R → By → (D → ToldDisk) → (K → ToldStore) → Core D K → Core D K → Begun R → Type 0

@@ -18,8 +18,10 @@ use Rattle.job_run.specs.declared.job.Done.{Done}
 use Rattle.core_laws.specs.Stored.{HasDiskRisen, IsStore, leaves_by}
 use Rattle.core_devices.specs.Events.{HasBack, IsEndedTold}
 use Rattle.core_devices.specs.Gives.{content_of, rough_of}
-use Rattle.core_devices.specs.Removals.{IsStoreNote}
+use Rattle.core_devices.specs.Removals.{IsStoreCall, IsStoreNote}
+use Rattle.core_devices.specs.Stores.{is_unkept, is_unwanted}
 use Rattle.core_devices.specs.Told.{ToldDisk, ToldPart, ToldStore}
+use Rattle.mat_core.specs.Calls.{is_stored_call}
 use Rattle.mat_core.specs.Begins.{IsSameCore}
 use Rattle.mat_core.specs.Books.{StandFor}
 use Rattle.mat_core.specs.Ending.{IsRecordedFor, done_entry, is_fresh, reply_ended}
@@ -68,6 +70,7 @@ pub record IsEnded {R : Type 0} (g : RegionGhosts R) (point : Point) (by : By) (
   pub still : leaves_by how ≡ true → now_store.rows ≡ store.rows
   pub faults : store.faults ≤ now_store.faults
   pub note : IsStoreNote store.faults now_store.faults (note_recorded how)
+  pub called : IsStoreCall (is_stored_call how) (is_unkept how) (is_unwanted how) store now_store
 
 -- it is entered, and the parts stand for the point behind the entry
 pub record HasEnded {D K R : Type 0} (g : RegionGhosts R) (point : Point) (by : By) (came : Done R g) (fresh : Bool) (how : Recorded) (old new : Parts D K)

@@ -12,7 +12,7 @@ use Rattle.keep_port.specs.Rows.{put_all, touch_all}
 use Rattle.keep_port.specs.declared.row.RawRow.{RawRow}
 use Rattle.keep_port.specs.declared.row.Touch.{Touch}
 use Rattle.core_laws.specs.Stored.{IsReadable, raw_of, touch_of}
-use Rattle.core_devices.specs.Removals.{IsStoreNote}
+use Rattle.core_devices.specs.Removals.{IsStoreCall, IsStoreNote}
 use Rattle.core_devices.specs.Told.{ToldStore}
 use Rattle.mat_core.specs.declared.flushing.Due.{Due}
 use Rattle.mat_core.specs.declared.flushing.Storing.{Storing}
@@ -146,3 +146,5 @@ pub record HasStoredAll (puts : List RawRow) (touches : List Touch) (said : Stor
   pub rows : new.rows ≡ option_map (after_storing_all puts touches said) old.rows
   pub faults : old.faults ≤ new.faults
   pub note : IsStoreNote old.faults new.faults (failure_of_storing said)
+  -- it was called where there was something to put or to touch
+  pub called : IsStoreCall (not (is_idle puts touches)) (has_storing_failed said) (has_storing_wanted said) old new

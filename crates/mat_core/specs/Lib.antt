@@ -18,6 +18,7 @@ pub mod Writing
 pub mod Beginning
 pub mod Orders
 pub mod PutDown
+pub mod Calls
 pub mod Begins
 pub mod Ending
 pub mod Keeping

@@ -1,5 +1,5 @@
 // The rows that are due are stored.
-ghost use Rattle.std.specs.Prelude.{◌≡◌, ◌≤◌, ◌+◌, ◌<◌, ◌^◌, ◌++◌, ◌∷◌, [], max, not, true, length, IfOk, OnOk};
+ghost use Rattle.std.specs.Prelude.{◌≡◌, ◌≤◌, ◌+◌, ◌<◌, ◌^◌, ◌++◌, ◌∷◌, [], max, true, length, IfOk, OnOk};
 ghost use Rattle.std.specs.Vec.{vec_capacity};
 ghost use Rattle.mat_model.specs.declared.requests.Asked.TheVariants as asked;
 ghost use Rattle.mat_model.specs.History.{Point};
@@ -8,10 +8,9 @@ ghost use Rattle.model_laws.specs.RoomRules.{IsRoomy};
 ghost use Rattle.core_laws.specs.Stored.{IsReadable, raw_of, touch_of};
 ghost use Rattle.mat_model.specs.Kept.{kept_row};
 ghost use Rattle.row_book.specs.Stocks.{rows_of};
-ghost use Rattle.core_devices.specs.Removals.{CallsStore};
 ghost use Rattle.core_devices.specs.Told.{told_store};
 ghost use Rattle.mat_core.specs.Books.{StandFor};
-ghost use Rattle.mat_core.specs.Flushing.{AreDue, HasStoredAll, HaveAllPlaces, IsLookedAt, KeepsOthers, has_storing_failed, has_storing_wanted, is_due_for, is_idle, is_new_use, is_same_use, marks_with, places_with, places_without, use_at};
+ghost use Rattle.mat_core.specs.Flushing.{AreDue, HasStoredAll, HaveAllPlaces, IsLookedAt, KeepsOthers, is_due_for, is_idle, is_new_use, is_same_use, marks_with, places_with, places_without, use_at};
 ghost use Rattle.mat_core.specs.Keeping.{AsksSo, asked_entry};
 ghost use Rattle.mat_core.specs.Replacing.{AreRuled};
 ghost use Rattle.mat_core.specs.Rooms.{HasReserves, spent_in};
@@ -190,7 +189,6 @@ fn settle_all(kept: &mut KeptBook, uses: Vec<Touch>)
 // Puts rows and touches others in one call of the state store; where there are none, in no call.
 fn store_due<K: Keeper>(keeper: &mut K, puts: &[RawRow], touches: &[Touch]) -> Storing
     ensures stored { HasStoredAll puts.now touches.now result (told_store ⟦<K as Keeper>⟧ keeper.old) (told_store ⟦<K as Keeper>⟧ keeper.new) }
-    ensures calls { CallsStore (not (is_idle puts.now touches.now)) (K.watch keeper.old) (K.watch keeper.new) (has_storing_failed result) (has_storing_wanted result) }
     ensures none { is_idle puts.now touches.now ≡ true → result ≡ Storing.Done }
     ensures same { is_idle puts.now touches.now ≡ true → keeper.new ≡ keeper.old }
 {

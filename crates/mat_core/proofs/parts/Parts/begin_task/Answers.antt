@@ -1,17 +1,19 @@
-use Rattle.std.proofs.Common.{◌≡◌, ◌≤◌, ◌+◌, true, Some, count_by, le_refl, refl, sym, ap, subst, ◌∙◌}
+use Rattle.std.proofs.Common.{◌≡◌, ◌≤◌, ◌+◌, true, false, Some, count_by, le_refl, refl, sym, ap, subst, ◌∙◌}
 use Rattle.std.specs.Option.{option_map}
 use Rattle.keep_port.specs.Rows.{remove_all}
 use Rattle.core_devices.specs.Events.{HasAgain}
-use Rattle.core_devices.specs.Removals.{IsStoreNote, are_some}
+use Rattle.core_devices.specs.Removals.{IsStoreCall, IsStoreNote, are_some}
 use Rattle.core_devices.specs.Told.{told_disk, told_store}
 use Rattle.core_devices.proofs.TakeLemmas.{same_again}
 use Rattle.mat_core.specs.Begins.{IsKeptStill}
+use Rattle.mat_core.specs.Calls.{MayWant}
 use Rattle.mat_core.specs.Beginning.{IsBegunEntered, has_no_row}
 use Rattle.mat_core.specs.Orders.{IsOrder, gone_for}
 use Rattle.mat_core.specs.declared.parts.Parts.{Parts}
 use Rattle.mat_core.proofs.BeginGoals as step
 use Rattle.mat_core.proofs.BeginGoals.{number_is, some_called}
 use Rattle.mat_core.proofs.OrderLemmas.{first_ready}
+use Rattle.mat_core.proofs.StoreCalls.{never_wanted}
 use Rattle.mat_core.proofs.UndoLemmas.{only_room}
 use Rattle.mat_core.proofs.parts.Parts.begin_task.Goals as goal
 
@@ -30,6 +32,8 @@ returns-in_default-make_room g c point stands rules gone =
           (le_refl (g.D.Disk.fault_count c.args.self.now.disk)));
       kept = subst (λ k. IsKeptStill (told_store g.K.Keeper c.args.self.now.keeper) (told_store g.K.Keeper k)) (sym wants.keeper)
           (record { rows = refl; faults = le_refl (g.K.Keeper.fault_count c.args.self.now.keeper) });
+      called = never_wanted (told_store g.K.Keeper c.args.self.now.keeper) (told_store g.K.Keeper c.make_room.new.self.keeper)
+          (ap (told_store g.K.Keeper) wants.keeper);
     }
 
 pub put_down-requires : goal.put_down-requires
@@ -51,6 +55,8 @@ returns-in_default-put_down g c point stands rules gone =
       kept = subst (λ k. IsKeptStill (told_store g.K.Keeper c.args.self.now.keeper) (told_store g.K.Keeper k))
           (sym (ap (λ (p : Parts g.row.D.Denot g.row.K.Denot). p.keeper) only ∙ room.keeper))
           (record { rows = refl; faults = le_refl (g.K.Keeper.fault_count c.args.self.now.keeper) });
+      called = never_wanted (told_store g.K.Keeper c.args.self.now.keeper) (told_store g.K.Keeper c.put_down.new.self.keeper)
+          (ap (told_store g.K.Keeper) (ap (λ (p : Parts g.row.D.Denot g.row.K.Denot). p.keeper) only ∙ room.keeper));
     }
 
 pub enter_begin-requires-clause-paths : goal.enter_begin-requires-clause-paths
@@ -111,6 +117,15 @@ returns-in-Done g c point stands rules gone =
           ∙ ap (λ k. option_map (λ rows. remove_all rows (gone_for c.args.self.now c.args.task)) (g.K.Keeper.kept k)) keeper_same;
       faults = subst (λ k. g.K.Keeper.fault_count c.args.self.now.keeper ≤ g.K.Keeper.fault_count k) (sym c.enter_begin.ensures.keeper)
           (subst (λ k. g.K.Keeper.fault_count k ≤ g.K.Keeper.fault_count c.remove_rows.new.keeper) keeper_same removed.faults);
+      called = subst (λ k. IsStoreCall (are_some (gone_for c.args.self.now c.args.task)) false false (told_store g.K.Keeper c.args.self.now.keeper) (told_store g.K.Keeper k))
+          (sym c.enter_begin.ensures.keeper)
+          (subst (λ k. IsStoreCall (are_some (gone_for c.args.self.now c.args.task)) false false (told_store g.K.Keeper k) (told_store g.K.Keeper c.remove_rows.new.keeper))
+          keeper_same
+          (subst (λ gs. IsStoreCall (are_some gs) false false (told_store g.K.Keeper c.put_down.new.self.keeper) (told_store g.K.Keeper c.remove_rows.new.keeper))
+          (c.as_slice.ensures.value ∙ step.gone_is g.D.Disk g.D.R.Region c.args.by c.args.task c.in-Ok.order c.args.self.now c.make_room.new.self point stands rules (c.requires.first point stands rules)
+          (subst (λ n. IsOrder c.args.self.now n c.args.task c.in-Ok.order) (ap (λ n. c.args.self.now.first + n) (c.len.ensures ∙ c.args.self.now.history.ok.0) ∙ number_is c.args.self.now point stands) c.in-Ok.ensures)
+          c.requires.loans c.in-Ok-make_room.ensures.room
+          c.put_down.new.self c.in-Ok-put_down.out c.in-Ok-put_down.ensures.down c.in-Ok-put_down.ensures.out c.in-Ok-put_down.ensures.taken) removed.called));
     }
 
 pub returns-in-Failed : goal.returns-in-Failed
@@ -147,6 +162,10 @@ returns-in-Failed g c point stands rules gone =
           (step.failed_still c.as_slice.result.now c.in-Failed.note (told_store g.K.Keeper c.put_down.new.self.keeper) (told_store g.K.Keeper c.remove_rows.new.keeper) removed));
       note = subst (λ k. IsStoreNote (g.K.Keeper.fault_count c.args.self.now.keeper) (g.K.Keeper.fault_count k) (Some c.in-Failed.note)) (sym keeper_new)
           (subst (λ k. IsStoreNote (g.K.Keeper.fault_count k) (g.K.Keeper.fault_count c.remove_rows.new.keeper) (Some c.in-Failed.note)) keeper_same removed.note);
+      called = subst (λ k. IsStoreCall true true false (told_store g.K.Keeper c.args.self.now.keeper) (told_store g.K.Keeper k)) (sym keeper_new)
+          (subst (λ k. IsStoreCall true true false (told_store g.K.Keeper k) (told_store g.K.Keeper c.remove_rows.new.keeper)) keeper_same
+          (step.failed_call c.as_slice.result.now c.in-Failed.note (told_store g.K.Keeper c.put_down.new.self.keeper) (told_store g.K.Keeper c.remove_rows.new.keeper)
+          (some_called c.as_slice.result.now c.remove_rows.result c.in-Failed.note c.in-Failed.is c.remove_rows.ensures.none) removed));
     }
 
 pub returns-in-NoMemory : goal.returns-in-NoMemory
@@ -171,4 +190,7 @@ returns-in-NoMemory g c point stands rules gone =
       kept = subst (λ k. IsKeptStill (told_store g.K.Keeper c.args.self.now.keeper) (told_store g.K.Keeper k)) (sym keeper_new)
           (subst (λ k. IsKeptStill (told_store g.K.Keeper k) (told_store g.K.Keeper c.remove_rows.new.keeper)) keeper_same
           (step.wanted_still c.as_slice.result.now (told_store g.K.Keeper c.put_down.new.self.keeper) (told_store g.K.Keeper c.remove_rows.new.keeper) removed));
+      called = subst (λ k. MayWant (told_store g.K.Keeper c.args.self.now.keeper) (told_store g.K.Keeper k)) (sym keeper_new)
+          (subst (λ k. MayWant (told_store g.K.Keeper k) (told_store g.K.Keeper c.remove_rows.new.keeper)) keeper_same
+          (step.wanting_call c.as_slice.result.now (told_store g.K.Keeper c.put_down.new.self.keeper) (told_store g.K.Keeper c.remove_rows.new.keeper) removed));
     }

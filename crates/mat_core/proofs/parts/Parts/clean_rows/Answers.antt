@@ -1,4 +1,4 @@
-use Rattle.std.proofs.Common.{◌≤◌, ◌∙◌, true, count_by, filter, subst, sym, le_trans}
+use Rattle.std.proofs.Common.{◌≤◌, ◌∙◌, true, count_by, filter, ap, subst, sym, le_trans}
 use Rattle.mat_model.specs.declared.answers.Reply.TheVariants as reply
 use Rattle.mat_model.specs.declared.requests.Asked.TheVariants as asked
 use Rattle.job_book.specs.Jobs.{jobs_of}
@@ -6,6 +6,8 @@ use Rattle.kept_book.specs.Marks.{is_mark_unlisted}
 use Rattle.mat_core.specs.Falling.{MayAllRemain, is_unkept}
 use Rattle.mat_core.specs.Removing.{IsAskEntered, taken_at}
 use Rattle.mat_core.specs.Sweeping.{AreSwept, condemned_by}
+use Rattle.core_devices.specs.Told.{told_store}
+use Rattle.mat_core.proofs.StoreCalls.{never_wanted}
 use Rattle.mat_core.proofs.InvalidateLemmas.{same_keeper, wanted_so}
 use Rattle.mat_core.proofs.SweepLemmas as step
 use Rattle.mat_core.proofs.SweepLists.{sweep_again, sweep_fits, sweep_remain, sweep_stays, sweep_taken}
@@ -15,6 +17,8 @@ pub returns-in_default : goal.returns-in_default
 returns-in_default g c point stands rules roomy =
     wanted_so g.K.Keeper c.args.by c.args.now _ c.args.self.now c.order_sweep.new.self c.order_sweep.new.self.keeper point c.requires.reserves
     c.order_sweep.ensures.room (same_keeper g.K.Keeper c.args.self.now.keeper c.order_sweep.new.self.keeper c.order_sweep.ensures.room.keeper)
+    (never_wanted (told_store g.K.Keeper c.args.self.now.keeper) (told_store g.K.Keeper c.order_sweep.new.self.keeper)
+    (ap (told_store g.K.Keeper) c.order_sweep.ensures.room.keeper))
 
 pub returns-in-Done : goal.returns-in-Done
 returns-in-Done g c point stands rules roomy =

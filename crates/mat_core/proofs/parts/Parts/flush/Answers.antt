@@ -5,7 +5,8 @@ use Rattle.core_devices.specs.Told.{told_store}
 use Rattle.mat_core.specs.Flushing.{HasStoredAll}
 use Rattle.mat_core.specs.declared.flushing.Storing.TheVariants as storing
 use Rattle.mat_core.specs.declared.parts.Parts.{Parts}
-use Rattle.mat_core.proofs.FlushLemmas.{entered_by, failed_so, flush_fits, flush_held, flush_keeps, flush_room, flushed_so, left_want, stored_as, stored_none}
+use Rattle.mat_core.proofs.FlushLemmas.{entered_by, failed_so, flush_fits, flush_held, flush_keeps, flush_room, flushed_so, left_want, stored_as, stored_none, stored_wanting}
+use Rattle.mat_core.proofs.StoreCalls.{never_wanted}
 use Rattle.mat_core.proofs.parts.Parts.flush.Goals as goal
 
 pub returns-in_default-reserve_all : goal.returns-in_default-reserve_all
@@ -34,6 +35,7 @@ returns-in_default-reserve_all g c point stands ruled roomy =
       places = flush_keeps _ c.args.self.now (record c.args.self.now { history = c.has_place.new.history; kept = c.release_all.new.kept }) c.in-Ok.due c.as_slice.result.now c.reserve_all.new.kept.reserved c.requires.rules c.in-Ok.ensures
           c.as_slice.ensures.value c.in_default-reserve_all.ensures.others c.release_all.ensures.places;
     }) (record { rows = refl; faults = le_refl (g.K.Keeper.fault_count c.args.self.now.keeper) })
+    (never_wanted (told_store g.K.Keeper c.args.self.now.keeper) (told_store g.K.Keeper c.args.self.now.keeper) refl)
 
 pub settle_all-requires : goal.settle_all-requires
 settle_all-requires g c =
@@ -114,4 +116,6 @@ returns g c point stands ruled roomy =
           c.as_slice.ensures.value c.in-Ok-reserve_all.ensures.others c.release_all-in-NoMemory.ensures.places;
     })
     (stored_none c.as_slice-2.result.now c.as_slice-3.result.now (told_store g.K.Keeper c.args.self.now.keeper) (told_store g.K.Keeper c.store_due.new.keeper)
+    c.in-NoMemory.ensures.stored)
+    (stored_wanting c.as_slice-2.result.now c.as_slice-3.result.now (told_store g.K.Keeper c.args.self.now.keeper) (told_store g.K.Keeper c.store_due.new.keeper)
     c.in-NoMemory.ensures.stored)

@@ -1,5 +1,7 @@
-use Rattle.std.proofs.Common.{◌∙◌, le_trans}
+use Rattle.std.proofs.Common.{◌∙◌, ap, le_trans}
 use Rattle.mat_core.proofs.InvalidateLemmas as step
+use Rattle.core_devices.specs.Told.{told_store}
+use Rattle.mat_core.proofs.StoreCalls.{never_wanted}
 use Rattle.mat_core.proofs.InvalidateLemmas.{ruled_again, same_keeper, wanted_so}
 use Rattle.mat_core.proofs.OverlapLemmas.{overlap_few}
 use Rattle.mat_core.proofs.parts.Parts.invalidate_live.Goals as goal
@@ -8,6 +10,8 @@ pub returns-in_default : goal.returns-in_default
 returns-in_default g c point stands rules roomy =
     wanted_so g.K.Keeper c.args.by c.args.now _ c.args.self.now c.order_clearing.new.self c.order_clearing.new.self.keeper point c.requires.reserves
     c.order_clearing.ensures.room (same_keeper g.K.Keeper c.args.self.now.keeper c.order_clearing.new.self.keeper c.order_clearing.ensures.room.keeper)
+    (never_wanted (told_store g.K.Keeper c.args.self.now.keeper) (told_store g.K.Keeper c.order_clearing.new.self.keeper)
+    (ap (told_store g.K.Keeper) c.order_clearing.ensures.room.keeper))
 
 pub clear-requires-clause-rules : goal.clear-requires-clause-rules
 clear-requires-clause-rules g c =
