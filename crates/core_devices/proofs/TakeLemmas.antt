@@ -3,6 +3,8 @@ use Rattle.std.proofs.Common.{◌≡◌, ◌≤◌, ℕ, Bool, true, false, not,
 use Rattle.std.specs.List.{list_any}
 use Rattle.std.specs.Option.{option_map}
 use Rattle.std.proofs.lemmas.Bool.{both_ways, or_right}
+use Rattle.std.proofs.Math.Nat.{min-eq_left}
+use Rattle.mat_io.specs.Watches.{Watch}
 use Rattle.mat_path.specs.Covering.{is_other_path}
 use Rattle.mat_path.specs.Names.{is_prefix, overlap, same_names}
 use Rattle.mat_path.proofs.Overlaps.{overlap-refl}
@@ -10,8 +12,9 @@ use Rattle.mat_path.proofs.PathLemmas.{prefix_split}
 use Rattle.mat_path.proofs.SameNames.{same_names-eq, same_names-refl}
 use Rattle.mat_tree.specs.Parts.{Part, below, replaced, without}
 use Rattle.region_port.specs.Calls.{Paths, paths_below, paths_of_both, paths_outside, with_inner}
+use Rattle.region_port.specs.Watches.{joined_watch, newly_lent}
 use Rattle.core_laws.specs.Places.{IsSameBelow}
-use Rattle.core_devices.specs.Events.{AreSameParts, HasAgain}
+use Rattle.core_devices.specs.Events.{AreSameParts, HasAgain, IsCounted}
 use Rattle.core_devices.specs.Takes.{IsFreeAt, IsPartAt, IsTaken, less_at, less_taken}
 use Rattle.core_devices.specs.Told.{ToldDisk, ToldPart}
 
@@ -60,17 +63,28 @@ others_stay path (loan ∷ lent) free = by (overlap path loan) refl (same_names 
         ap (λ b. cond (not b) (loan ∷ filter (is_other_path path) (lent ++ path ∷ [])) (filter (is_other_path path) (lent ++ path ∷ []))) same
         ∙ ap (λ (l : List (List (List ℕ))). loan ∷ l) (more none)
 
+-- a part that wasn't called adds nothing to the calls of its disk
+uncalled_joins : (watch : Option Watch) → IsCounted watch → joined_watch (option_map newly_lent watch) watch ≡ watch
+uncalled_joins None counted = refl
+uncalled_joins (Some watch) counted =
+    ap (λ n. Some (record { calls = n; armed = watch.armed }))
+    (min-eq_left (let most = counted in omega (arith, most)) ∙ omega (arith))
+
 -- a disk that has again, without a part that was taken, what it had, and to which this is given back as it was
 pub given_again : (path : List (List ℕ)) (before now later : ToldDisk) (part : ToldPart) → list_any (overlap path) before.lent ≡ false →
-    IsPartAt path before.content before.rough part → HasAgain (less_taken path before) now → later.content ≡ with_inner part.place part.content now.content →
-    later.lent ≡ filter (is_other_path part.place) now.lent → later.rough ≡ paths_of_both now.rough (paths_below part.place part.rough) →
-    now.faults ≤ later.faults → HasAgain before later
-given_again path before now later part free at again content lent rough faults = record {
+    IsPartAt path before.content before.rough before.watch part → HasAgain (less_taken path before) now →
+    later.content ≡ with_inner part.place part.content now.content → later.lent ≡ filter (is_other_path part.place) now.lent →
+    later.rough ≡ paths_of_both now.rough (paths_below part.place part.rough) → now.faults ≤ later.faults →
+    later.watch ≡ joined_watch part.watch now.watch → HasAgain before later
+given_again path before now later part free at again content lent rough faults watch = record {
   parts = subst (λ o. AreSameParts before.content before.rough o later.rough) (sym content_is)
       (subst (λ q. AreSameParts before.content before.rough (with_inner path (option_map (below path) before.content) now.content) q) (sym rough_is)
       (parts_again path before.content now.content before.rough now.rough again.parts));
   lent = lent ∙ ap (λ p. filter (is_other_path p) now.lent) at.place ∙ ap (filter (is_other_path path)) again.lent ∙ others_stay path before.lent free;
   faults = let less = again.faults in omega (arith, less, faults);
+  watch = λ counted.
+      watch ∙ ap (λ w. joined_watch w now.watch) at.watch ∙ ap (joined_watch (option_map newly_lent before.watch)) (again.watch counted)
+      ∙ uncalled_joins before.watch counted;
 }
   where
     content_is : later.content ≡ with_inner path (option_map (below path) before.content) now.content
@@ -85,12 +99,13 @@ same_parts None rough = tt
 same_parts (Some content) rough = record { node = λ path within. refl; rough = λ path within. refl }
 
 pub same_again : (before now : ToldDisk) → now.content ≡ before.content → now.lent ≡ before.lent → now.rough ≡ before.rough → before.faults ≤ now.faults →
-    HasAgain before now
-same_again before now content lent rough faults = record {
+    now.watch ≡ before.watch → HasAgain before now
+same_again before now content lent rough faults watch = record {
   parts = subst (λ o. AreSameParts before.content before.rough o now.rough) (sym content)
       (subst (λ q. AreSameParts before.content before.rough before.content q) (sym rough) (same_parts before.content before.rough));
   lent = lent;
   faults = faults;
+  watch = λ counted. watch;
 }
 
 -- a disk that lent nothing has again what it had
@@ -105,18 +120,19 @@ no_more (loan ∷ lent) = ap (λ (l : List (List (List ℕ))). loan ∷ l) (no_m
 pub untaken_again : (at : Option (List (List ℕ))) (before now : ToldDisk) → IsTaken at before now None → HasAgain before now
 untaken_again None before now taken =
     same_again before now (taken.content ∙ option_same before.content) (taken.lent ∙ no_more before.lent) taken.rough
-    (subst (λ n. before.faults ≤ n) (sym taken.faults) (le_refl before.faults))
+    (subst (λ n. before.faults ≤ n) (sym taken.faults) (le_refl before.faults)) taken.watch
 untaken_again (Some path) before now taken = absurd taken.part
 
 -- so has one to which the part that it lent is given back
 pub source_again : (at : Option (List (List ℕ))) (before now later : ToldDisk) (part : ToldPart) → IsFreeAt at before.lent → IsTaken at before now (Some part) →
     later.content ≡ with_inner part.place part.content now.content → later.lent ≡ filter (is_other_path part.place) now.lent →
-    later.rough ≡ paths_of_both now.rough (paths_below part.place part.rough) → now.faults ≤ later.faults → HasAgain before later
-source_again None before now later part free taken content lent rough faults = absurd taken.part
-source_again (Some path) before now later part free taken content lent rough faults =
+    later.rough ≡ paths_of_both now.rough (paths_below part.place part.rough) → now.faults ≤ later.faults →
+    later.watch ≡ joined_watch part.watch now.watch → HasAgain before later
+source_again None before now later part free taken content lent rough faults watch = absurd taken.part
+source_again (Some path) before now later part free taken content lent rough faults watch =
     given_again path before now later part free taken.part
-    (same_again (less_taken path before) now taken.content taken.lent taken.rough (subst (λ n. before.faults ≤ n) (sym taken.faults) (le_refl before.faults)))
-    content lent rough faults
+    (same_again (less_taken path before) now taken.content taken.lent taken.rough (subst (λ n. before.faults ≤ n) (sym taken.faults) (le_refl before.faults))
+    taken.watch) content lent rough faults watch
 
 -- the last one of some loans is one of them
 last_out : (path : List (List ℕ)) (lent : List (List (List ℕ))) → list_any (same_names path) (lent ++ path ∷ []) ≡ true
@@ -130,7 +146,7 @@ source_out (Some path) before now part taken =
     subst (λ p. list_any (same_names p) now.lent ≡ true) (sym taken.part.place)
     (subst (λ l. list_any (same_names path) l ≡ true) (sym taken.lent) (last_out path before.lent))
 
-pub task_out : (path : List (List ℕ)) (before now : ToldDisk) (part : ToldPart) → IsPartAt path before.content before.rough part →
+pub task_out : (path : List (List ℕ)) (before now : ToldDisk) (part : ToldPart) → IsPartAt path before.content before.rough before.watch part →
     HasAgain (less_taken path before) now → list_any (same_names part.place) now.lent ≡ true
 task_out path before now part at again =
     subst (λ p. list_any (same_names p) now.lent ≡ true) (sym at.place)

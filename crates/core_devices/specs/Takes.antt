@@ -2,27 +2,30 @@
 use Rattle.std.specs.Prelude.{◌≡◌, [], ◌∷◌, ◌++◌, ℕ, false, List, Option, Some, None}
 use Rattle.std.specs.List.{list_any}
 use Rattle.std.specs.Option.{option_map}
+use Rattle.mat_io.specs.Watches.{Watch}
 use Rattle.mat_path.specs.Names.{overlap}
 use Rattle.mat_tree.specs.Parts.{Part, below, without}
 use Rattle.region_port.specs.Calls.{Paths, paths_below, paths_outside}
+use Rattle.region_port.specs.Watches.{newly_lent}
 use Rattle.region_port.specs.declared.port.Region.{Ghosts as RegionGhosts}
 use Rattle.core_devices.specs.declared.taking.Loan.{Loan}
 use Rattle.core_devices.specs.declared.taking.Source.{Source}
 use Rattle.core_devices.specs.Told.{ToldDisk, ToldPart, told_part}
 
--- a part is what a disk with this content, and so rough, had at and below a path, and no call of it has failed
-pub record IsPartAt (path : List (List ℕ)) (whole : Option Part) (paths : Paths) (part : ToldPart) : Type 0 where
+-- a part is what a disk with this content, so rough and called so often, had at and below a path; it hasn't been called, and isn't armed
+pub record IsPartAt (path : List (List ℕ)) (whole : Option Part) (paths : Paths) (calls : Option Watch) (part : ToldPart) : Type 0 where
   pub place : part.place ≡ path
   pub content : part.content ≡ option_map (below path) whole
   pub rough : part.rough ≡ paths_below path paths
   pub faults : part.faults ≡ 0
+  pub watch : part.watch ≡ option_map newly_lent calls
 
 -- the same of a part that is read, if one is
-abbrev pub IsReadAt : Option (List (List ℕ)) → Option Part → Paths → Option ToldPart → Type 0
-IsReadAt None content rough None = Unit {0}
-IsReadAt None content rough (Some part) = ⊥
-IsReadAt (Some path) content rough None = ⊥
-IsReadAt (Some path) content rough (Some part) = IsPartAt path content rough part
+abbrev pub IsReadAt : Option (List (List ℕ)) → Option Part → Paths → Option Watch → Option ToldPart → Type 0
+IsReadAt None content rough watch None = Unit {0}
+IsReadAt None content rough watch (Some part) = ⊥
+IsReadAt (Some path) content rough watch None = ⊥
+IsReadAt (Some path) content rough watch (Some part) = IsPartAt path content rough watch part
 
 -- a path, if there is one, as a list
 abbrev pub listed : Option (List (List ℕ)) → List (List (List ℕ))
@@ -40,11 +43,12 @@ less_rough_at (Some path) rough = paths_outside path rough
 
 -- a disk has lent a part at a path, if there is one
 pub record IsTaken (at : Option (List (List ℕ))) (old new : ToldDisk) (taken : Option ToldPart) : Type 0 where
-  pub part : IsReadAt at old.content old.rough taken
+  pub part : IsReadAt at old.content old.rough old.watch taken
   pub content : new.content ≡ option_map (less_at at) old.content
   pub lent : new.lent ≡ old.lent ++ listed at
   pub rough : new.rough ≡ less_rough_at at old.rough
   pub faults : new.faults ≡ old.faults
+  pub watch : new.watch ≡ old.watch
 
 -- what a disk tells that has lent the part at a path
 abbrev pub less_taken : List (List ℕ) → ToldDisk → ToldDisk
@@ -53,12 +57,13 @@ less_taken path disk = record {
   lent = disk.lent ++ path ∷ [];
   rough = paths_outside path disk.rough;
   faults = disk.faults;
+  watch = disk.watch;
 }
 
 -- a disk has lent the part of a task, and then the one that is read, if one is
 pub record AreTaken (path : List (List ℕ)) (at : Option (List (List ℕ))) (old new : ToldDisk) (part : ToldPart) (other : Option ToldPart) :
     Type 0 where
-  pub its : IsPartAt path old.content old.rough part
+  pub its : IsPartAt path old.content old.rough old.watch part
   pub read : IsTaken at (less_taken path old) new other
 
 -- no loan overlaps a path, if there is one

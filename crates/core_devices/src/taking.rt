@@ -38,7 +38,6 @@ fn take_source<D: Disk>(disk: &mut D, source: Option<Source>) -> Result<Option<L
     requires { IsFreeAt (option_map source_path source) (D.lent disk.old) }
     ensures taken { IfOk result (λ loan. IsTaken (option_map source_path source) (told_disk ⟦<D as Disk>⟧ disk.old) (told_disk ⟦<D as Disk>⟧ disk.new) (option_map (told_loan ⟦<D::R as Region>⟧) loan)) }
     ensures source { IfOk result (λ loan. option_map source_of_loan loan ≡ source) }
-    ensures watch { D.watch disk.new ≡ D.watch disk.old }
     ensures same { IfErr result (λ want. told_disk ⟦<D as Disk>⟧ disk.new ≡ told_disk ⟦<D as Disk>⟧ disk.old) }
 {
     let Some(source) = source else {

@@ -30,7 +30,7 @@ use Rattle.job_book.specs.Jobs.{job_of, jobs_of}
 use Rattle.job_book.specs.Numbers.{is_number, is_other}
 use Rattle.job_book.specs.declared.running.KeptBytes.{KeptBytes}
 use Rattle.job_book.specs.declared.running.Running.{Running}
-use Rattle.core_devices.specs.Events.{HasBack}
+use Rattle.core_devices.specs.Events.{HasBack, HasJoined}
 use Rattle.core_devices.specs.Gives.{AreOf, HasRisenBy, IsReadOf, IsStillOut, content_of, rough_of}
 use Rattle.core_devices.specs.Told.{ToldDisk, ToldStore, told_part}
 use Rattle.mat_core.specs.Begins.{IsSameCore}
@@ -136,6 +136,7 @@ module _ {D K R : Type 0} (g : RegionGhosts R) (by : By) (came : Done R g) (old 
         (left : IsLeftBy came.part (g.part region) (g.rough region)) (read : Option R)
         (is_read : option_map (told_part g) read ≡ option_map (told_read g) came.loan) (disk now_disk : ToldDisk)
         (back : HasBack (job_of whole) (g.part region) (g.rough region) (content_of (option_map (told_part g) read)) (rough_of (option_map (told_part g) read)) disk now_disk)
+        (joined : HasJoined (told_part g region) (option_map (told_part g) read) disk now_disk)
         (counted : 1 ≤ g.fault_count region → 1 ≤ now_disk.faults) (read_counted : HasRisenBy (option_map (told_part g) read) now_disk.faults)
         (small : AreCounts (note_of_outcome came.outcome)) (fresh : Bool) (is_so : fresh ≡ is_fresh whole.card.task (rows_of old.rows)) where
       same_rows : rows_of old.rows ≡ point.book.rows
@@ -161,6 +162,7 @@ module _ {D K R : Type 0} (g : RegionGhosts R) (by : By) (came : Done R g) (old 
             (faulted_so came.card.task came.outcome came.ends came.risen small);
         its = told_part g region;
         back = subst (λ o. HasBack (job_of whole) (g.part region) (g.rough region) (content_of o) (rough_of o) disk now_disk) is_read back;
+        joined = subst (λ o. HasJoined (told_part g region) o disk now_disk) is_read joined;
         ended = ended_told whole.card.task came.outcome came.part point.book.rows (g.part region) (g.rough region) rules.work.apart came.leaves
             (subst (λ rows. is_made_for rows whole.card.task came.outcome (state_tree came.part) ≡ true) same_rows parts_fit.0) left;
         risen = disk_risen g came.outcome (g.fault_count (state_region came.part)) now_disk.faults came.loan came.counted came.risen
@@ -233,6 +235,7 @@ pub end_is : {D K R : Type 0} (g : RegionGhosts R) (told : D → ToldDisk) (stor
     (is_read : option_map (told_part g) read ≡ option_map (told_read g) came.loan) (gave : D)
     (back : (job : Job) → AreOf job (told_part g region) (option_map (told_part g) read) →
     HasBack job (g.part region) (g.rough region) (content_of (option_map (told_part g) read)) (rough_of (option_map (told_part g) read)) (told old.disk) (told gave))
+    (joined : HasJoined (told_part g region) (option_map (told_part g) read) (told old.disk) (told gave))
     (counted : 1 ≤ g.fault_count region → 1 ≤ (told gave).faults) (read_counted : HasRisenBy (option_map (told_part g) read) (told gave).faults)
     (small : AreCounts (note_of_outcome came.outcome)) (fresh : Bool) (is_so : fresh ≡ is_fresh whole.card.task (rows_of mid.rows))
     (between : Between came.card.job gave old mid) (rest : IsBesideEnd mid new)
@@ -240,7 +243,7 @@ pub end_is : {D K R : Type 0} (g : RegionGhosts R) (told : D → ToldDisk) (stor
     (behind : StandFor new (after point (done_entry by point.book.now whole.card.job came.outcome (reply_ended fresh how)))) (reserves : HasReserves new) →
     HasEnded g point by came fresh how old new (told old.disk) (told new.disk) (stored old.keeper) (stored new.keeper)
 end_is {D} {K} {R} g told stored by came old mid new whole number ruled loans ready fits found how is_end point stands rules region is_region left read is_read
-    gave back counted read_counted small fresh is_so between rest entered behind reserves =
+    gave back joined counted read_counted small fresh is_so between rest entered behind reserves =
     subst (λ k. HasEnded g point by came fresh how old new (told old.disk) (told new.disk) (stored old.keeper) (stored k)) (sym rest.keeper)
     (subst (λ d. HasEnded g point by came fresh how old new (told old.disk) (told d) (stored old.keeper) (stored mid.keeper))
     (sym (rest.disk ∙ ap (λ (p : Parts D K). p.disk) between))
@@ -248,7 +251,7 @@ end_is {D} {K} {R} g told stored by came old mid new whole number ruled loans re
     region is_region left read is_read (told old.disk) (told gave)
     (back (job_of whole)
     (given_of g by came old whole number ruled (told old.disk).lent loans ready fits found region is_region read is_read))
-    counted read_counted small fresh
+    joined counted read_counted small fresh
     (is_so ∙ ap (λ (p : Parts D K). is_fresh whole.card.task (rows_of p.rows)) between)
     new
     (record {

@@ -83,6 +83,7 @@ taken_lent begun read old new part other taken = record {
       ∙ append_assoc old.lent (path_of_task begun ∷ []) (claimed_by_part read);
   rough = taken.read.rough ∙ less_rough_both read _;
   faults = let same = taken.read.faults in omega (arith, same);
+  watch = taken.read.watch;
 }
 
 -- ---- the kept rows that go

@@ -65,7 +65,7 @@ same_parts None rough = tt
 same_parts (Some content) rough = record { node = λ path below. refl; rough = λ path below. refl }
 
 pub same_again : (disk : ToldDisk) → HasAgain disk disk
-same_again disk = record { parts = same_parts disk.content disk.rough; lent = refl; faults = le_refl disk.faults }
+same_again disk = record { parts = same_parts disk.content disk.rough; lent = refl; faults = le_refl disk.faults; watch = λ counted. refl }
 
 module _ (identity first : ℕ) (check : Bool) (Sound : Type 0) (point : Point) (entry : Entry) (request : Asked) (disk : ToldDisk)
     (store now_store : ToldStore) (rules : IsPoint point) (asks : entry.event ≡ event.Asked request)

@@ -16,7 +16,7 @@ use Rattle.region_port.specs.declared.states.Part.{Part as State}
 use Rattle.region_port.specs.declared.states.Part.TheVariants as state
 use Rattle.job_run.specs.declared.job.Done.{Done}
 use Rattle.core_laws.specs.Stored.{HasDiskRisen, IsStore, leaves_by}
-use Rattle.core_devices.specs.Events.{HasBack, IsEndedTold}
+use Rattle.core_devices.specs.Events.{HasBack, HasJoined, IsEndedTold}
 use Rattle.core_devices.specs.Gives.{content_of, rough_of}
 use Rattle.core_devices.specs.Removals.{IsStoreCall, IsStoreNote}
 use Rattle.core_devices.specs.Stores.{is_unkept, is_unwanted}
@@ -64,6 +64,7 @@ pub record IsEnded {R : Type 0} (g : RegionGhosts R) (point : Point) (by : By) (
   -- its parts are back: its task's is as the outcome says
   pub its : ToldPart
   pub back : HasBack job its.content its.rough (content_of (option_map (told_read g) came.loan)) (rough_of (option_map (told_read g) came.loan)) disk now_disk
+  pub joined : HasJoined its (option_map (told_read g) came.loan) disk now_disk
   pub ended : IsEndedTold job.task came.outcome point.book.rows its.content its.rough
   pub risen : HasDiskRisen now_disk.faults (note_of_outcome came.outcome)
   -- the state store has what it had unless it took a row, and a note is of a call between its counts

@@ -60,7 +60,7 @@ impl<D: Disk, K: Keeper> Model for Core<D, K> {
 
     ghost view = { λ core. seen_of core.parts };
 
-    ghost invariant = { λ core. IsCore (λ disk. record { content = D.content disk; lent = D.lent disk; rough = D.rough disk; faults = D.fault_count disk }) (λ keeper. record { rows = K.kept keeper; faults = K.fault_count keeper; watch = K.watch keeper }) core.parts };
+    ghost invariant = { λ core. IsCore (λ disk. record { content = D.content disk; lent = D.lent disk; rough = D.rough disk; faults = D.fault_count disk; watch = D.watch disk }) (λ keeper. record { rows = K.kept keeper; faults = K.fault_count keeper; watch = K.watch keeper }) core.parts };
 }
 
 impl<D: Disk, K: Keeper> Core<D, K> {
@@ -82,7 +82,7 @@ impl<D: Disk, K: Keeper> Core<D, K> {
 
     /// The law of a core: its history is legal, and its devices keep their rules beside the point that this leads to. It does nothing.
     pub fn keeps(&self)
-        ensures { IsSeen (λ (disk : D). record { content = D.content disk; lent = D.lent disk; rough = D.rough disk; faults = D.fault_count disk }) (λ (keeper : K). record { rows = K.kept keeper; faults = K.fault_count keeper; watch = K.watch keeper }) self.now }
+        ensures { IsSeen (λ (disk : D). record { content = D.content disk; lent = D.lent disk; rough = D.rough disk; faults = D.fault_count disk; watch = D.watch disk }) (λ (keeper : K). record { rows = K.kept keeper; faults = K.fault_count keeper; watch = K.watch keeper }) self.now }
     {
         let _ = &self.parts;
     }

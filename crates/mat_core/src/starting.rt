@@ -36,8 +36,8 @@ impl<D: Disk, K: Keeper> Core<D, K> {
         requires limits { AreLimits limits }
         ensures started { IfOk result (λ core. IsStarted limits entrance disk keeper core) }
         ensures answers { AnswersTold limits.rows entrance.identity (K.kept keeper) (opening_of result) }
-        ensures found { IfOk result (λ core. AreFound entrance.identity entrance.check core.base.opening.value (record { content = D.content disk; lent = D.lent disk; rough = D.rough disk; faults = D.fault_count disk }) (record { content = D.content core.disk; lent = D.lent core.disk; rough = D.rough core.disk; faults = D.fault_count core.disk }) (record { rows = K.kept keeper; faults = K.fault_count keeper; watch = K.watch keeper }) (record { rows = K.kept core.keeper; faults = K.fault_count core.keeper; watch = K.watch core.keeper })) }
-        ensures back { IfErr result (λ shut. IsBack (record { content = D.content disk; lent = D.lent disk; rough = D.rough disk; faults = D.fault_count disk }) (record { content = D.content shut.disk; lent = D.lent shut.disk; rough = D.rough shut.disk; faults = D.fault_count shut.disk })) }
+        ensures found { IfOk result (λ core. AreFound entrance.identity entrance.check core.base.opening.value (record { content = D.content disk; lent = D.lent disk; rough = D.rough disk; faults = D.fault_count disk; watch = D.watch disk }) (record { content = D.content core.disk; lent = D.lent core.disk; rough = D.rough core.disk; faults = D.fault_count core.disk; watch = D.watch core.disk }) (record { rows = K.kept keeper; faults = K.fault_count keeper; watch = K.watch keeper }) (record { rows = K.kept core.keeper; faults = K.fault_count core.keeper; watch = K.watch core.keeper })) }
+        ensures back { IfErr result (λ shut. IsBack (record { content = D.content disk; lent = D.lent disk; rough = D.rough disk; faults = D.fault_count disk; watch = D.watch disk }) (record { content = D.content shut.disk; lent = D.lent shut.disk; rough = D.rough shut.disk; faults = D.fault_count shut.disk; watch = D.watch shut.disk })) }
     {
         let told = Snapshot::of(&disk);
         let stored = Snapshot::of(&keeper);

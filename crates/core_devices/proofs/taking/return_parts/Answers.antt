@@ -23,4 +23,4 @@ returns g c was =
       free = was.apart;
       taken = was.taken.read;
     }))
-    c.give.ensures.content c.give.ensures.lent c.give.ensures.rough c.give.ensures.cause.later
+    c.give.ensures.content c.give.ensures.lent c.give.ensures.rough c.give.ensures.cause.later c.give.ensures.watch

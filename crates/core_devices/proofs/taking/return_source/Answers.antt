@@ -15,4 +15,4 @@ pub returns-in-Some : goal.returns-in-Some
 returns-in-Some g c was =
     source_again was.at was.before (told_disk g.D.Disk c.args.disk.now) (told_disk g.D.Disk c.give.new.self) (told_part g.D.R.Region c.in-Some.region) was.free
     (subst (λ o. IsTaken was.at was.before (told_disk g.D.Disk c.args.disk.now) (option_map (told_part g.D.R.Region) o)) c.in-Some.is was.taken)
-    c.give.ensures.content c.give.ensures.lent c.give.ensures.rough c.give.ensures.cause.later
+    c.give.ensures.content c.give.ensures.lent c.give.ensures.rough c.give.ensures.cause.later c.give.ensures.watch

@@ -29,7 +29,7 @@ returns-in_default-make_room g c point stands rules gone =
       still = only_room c.args.self.now c.make_room.new.self wants c.requires.reserves;
       again = subst (λ d. HasAgain (told_disk g.D.Disk c.args.self.now.disk) (told_disk g.D.Disk d)) (sym wants.disk)
           (same_again (told_disk g.D.Disk c.args.self.now.disk) (told_disk g.D.Disk c.args.self.now.disk) refl refl refl
-          (le_refl (g.D.Disk.fault_count c.args.self.now.disk)));
+          (le_refl (g.D.Disk.fault_count c.args.self.now.disk)) refl);
       kept = subst (λ k. IsKeptStill (told_store g.K.Keeper c.args.self.now.keeper) (told_store g.K.Keeper k)) (sym wants.keeper)
           (record { rows = refl; faults = le_refl (g.K.Keeper.fault_count c.args.self.now.keeper) });
       called = never_wanted (told_store g.K.Keeper c.args.self.now.keeper) (told_store g.K.Keeper c.make_room.new.self.keeper)

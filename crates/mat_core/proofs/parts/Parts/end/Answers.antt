@@ -63,7 +63,7 @@ returns-then-enter_end g c point stands rules =
     (subst (λ k. IsRecordedEnd (end_of c.args.self.now.rows c.in-Some.running.card.task c.args.done.outcome) k c.record-how.result
     (told_store g.K.Keeper c.args.self.now.keeper) (told_store g.K.Keeper c.record-how.new.self.keeper)) c.take-kept.ensures.value c.record-how.ensures.told)
     point stands rules c.part_region.result c.part_region.ensures.region c.part_region.ensures.left c.region_of.result c.region_of.ensures
-    c.give_parts.new.disk c.give_parts.ensures.back c.give_parts.ensures.counted c.give_parts.ensures.read_counted c.note_fits.ensures true
+    c.give_parts.new.disk c.give_parts.ensures.back c.give_parts.ensures.joined c.give_parts.ensures.counted c.give_parts.ensures.read_counted c.note_fits.ensures true
     (sym c.if-enter_end.true ∙ c.enter_end.ensures.fresh)
     (c.record-how.ensures.only
     ∙ ap (λ js. record c.args.self.now { jobs = js; disk = c.give_parts.new.disk; keeper = c.record-how.new.self.keeper }) c.take.ensures.list)
@@ -101,7 +101,7 @@ returns g c point stands rules =
     (subst (λ k. IsRecordedEnd (end_of c.args.self.now.rows c.in-Some.running.card.task c.args.done.outcome) k c.record-how.result
     (told_store g.K.Keeper c.args.self.now.keeper) (told_store g.K.Keeper c.record-how.new.self.keeper)) c.take-kept.ensures.value c.record-how.ensures.told)
     point stands rules c.part_region.result c.part_region.ensures.region c.part_region.ensures.left c.region_of.result c.region_of.ensures
-    c.give_parts.new.disk c.give_parts.ensures.back c.give_parts.ensures.counted c.give_parts.ensures.read_counted c.note_fits.ensures false
+    c.give_parts.new.disk c.give_parts.ensures.back c.give_parts.ensures.joined c.give_parts.ensures.counted c.give_parts.ensures.read_counted c.note_fits.ensures false
     (sym c.if-enter_end.false ∙ c.enter_end.ensures.fresh)
     (c.record-how.ensures.only
     ∙ ap (λ js. record c.args.self.now { jobs = js; disk = c.give_parts.new.disk; keeper = c.record-how.new.self.keeper }) c.take.ensures.list)
