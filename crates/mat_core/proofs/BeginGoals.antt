@@ -470,16 +470,16 @@ module _ {D K R : Type 0} (gd : DiskGhosts D R) (gr : RegionGhosts R) (by : By) 
 -- ---- the state store
 
 -- kept rows overlap the path of a task where some are to go
-pub some_overlap : (path : List (List ℕ)) (kept : List KeptRow) → are_some (map path_of_mark (filter (overlaps_mark path) (map mark_of kept))) ≡ true →
-    list_any (overlaps_kept path) kept ≡ true
-some_overlap path [] is = absurd (both_ways false refl is)
-some_overlap path (one ∷ kept) is =
+pub overlap_is : (path : List (List ℕ)) (kept : List KeptRow) →
+    are_some (map path_of_mark (filter (overlaps_mark path) (map mark_of kept))) ≡ list_any (overlaps_kept path) kept
+overlap_is path [] = refl
+overlap_is path (one ∷ kept) =
     elim (overlap one.path path) as
-    (λ b. are_some (map path_of_mark (cond b (mark_of one ∷ filter (overlaps_mark path) (map mark_of kept)) (filter (overlaps_mark path) (map mark_of kept)))) ≡ true →
-    (b || list_any (overlaps_kept path) kept) ≡ true) [
-      | true ↦ λ some. refl
-      | false ↦ λ some. some_overlap path kept some
-    ] is
+    (λ b. are_some (map path_of_mark (cond b (mark_of one ∷ filter (overlaps_mark path) (map mark_of kept)) (filter (overlaps_mark path) (map mark_of kept))))
+    ≡ (b || list_any (overlaps_kept path) kept)) [
+      | true ↦ refl
+      | false ↦ overlap_is path kept
+    ]
 
 -- a removal that wasn't done leaves the rows
 same_rows : (f : List RawRow → List RawRow) (told : Option (List RawRow)) → ((rows : List RawRow) → f rows ≡ rows) → option_map f told ≡ told
@@ -519,5 +519,5 @@ wanting_call paths store now removed = wanted_call (are_some paths) store now re
 pub gone_overlap : {D K : Type 0} (parts : Parts D K) (point : Point) (begun : Task) → StandFor parts point → are_some (gone_for parts begun) ≡ true →
     list_any (overlaps_kept (path_of_task begun)) point.kept ≡ true
 gone_overlap parts point begun stands some =
-    some_overlap (path_of_task begun) point.kept
-    (subst (λ ms. are_some (map path_of_mark (filter (overlaps_mark (path_of_task begun)) ms)) ≡ true) stands.kept some)
+    sym (overlap_is (path_of_task begun) point.kept)
+    ∙ subst (λ ms. are_some (map path_of_mark (filter (overlaps_mark (path_of_task begun)) ms)) ≡ true) stands.kept some

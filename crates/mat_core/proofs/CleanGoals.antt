@@ -1,7 +1,7 @@
 -- What a clean did: the room for its entry, an entry that changes nothing but the moment, and one by which stale rows are gone.
 use Rattle.std.proofs.Common.{◌≡◌, ◌≤◌, ◌+◌, ℕ, max, nat_lt, Bool, true, false, not, ◌||◌, cond, List, [], ◌∷◌, ◌++◌, map, filter, length, count_by, Contains, Some, None, refl, sym, ap, subst, ◌∙◌, le_refl, le_trans, arith}
 use Rattle.std.specs.List.{list_all, list_any}
-use Rattle.std.specs.Option.{ForSome, is_some}
+use Rattle.std.specs.Option.{ForSome}
 use Rattle.std.specs.Vec.{vec_capacity}
 use Rattle.std.specs.declared.alloc.Global.{Global}
 use Rattle.std.specs.declared.vec.Vec.{Vec}
@@ -52,7 +52,7 @@ use Rattle.job_book.specs.Jobs.{jobs_of}
 use Rattle.kept_book.specs.Marks.{mark_of}
 use Rattle.mat_core.specs.Beginning.{HaveOnlyRoom}
 use Rattle.mat_core.specs.Begins.{IsKeptStill}
-use Rattle.mat_core.specs.Calls.{MayCall}
+use Rattle.mat_core.specs.Calls.{CallsAsDue}
 use Rattle.mat_core.specs.Books.{AreWork, StandFor}
 use Rattle.mat_core.specs.Cleans.{gone_in}
 use Rattle.mat_core.specs.Keeping.{AsksSo, WasAsked, asked_entry, moment_at}
@@ -294,7 +294,7 @@ module _ {D K : Type 0} (gk : KeeperGhosts K) (by : By) (now : ℕ) (asking : As
 
     pub calm_asked : IsKeptStill (told_store gk old.keeper) (told_store gk keeper) →
         IsStoreNote (gk.fault_count old.keeper) (gk.fault_count keeper) (note_of said) →
-        MayCall (is_some (note_of said)) (told_store gk old.keeper) (told_store gk keeper) →
+        CallsAsDue point asking said (told_store gk old.keeper) (told_store gk keeper) →
         WasAsked point by now asking said old calm_new (told_store gk old.keeper) (told_store gk keeper)
     calm_asked still note called = record {
       same = record { base = only.same.base; lost = only.same.lost };
@@ -335,7 +335,8 @@ dry_so {D} {K} gk by now cutoff said told old new point stands rules roomy had p
     (calm_asked gk by now request old old old.keeper point stands had (grown_room old old.history refl (le_refl (vec_capacity old.history))) place the_reply
     (record { cleaning = refl; ways = λ rows ways. refl; keeps = λ rows kept. refl; nodes = λ book. refl }) new.moment new.history entered.moment
     (entered.history ∙ ap (λ (r : Reply). old.history.items ++ asked_entry by (max old.moment now) request r ∷ []) (tells ∙ is)) entered.capacity refl
-    (same_keeper gk old.keeper old.keeper refl) tt (never_asked (told_store gk old.keeper) (told_store gk old.keeper) refl))))
+    (same_keeper gk old.keeper old.keeper refl) tt
+    (never_asked point request the_reply (told_store gk old.keeper) (told_store gk old.keeper) refl refl refl))))
   where
     request : Asked
     request = asked.Clean cutoff mode.Dry

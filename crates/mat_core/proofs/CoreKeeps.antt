@@ -1,6 +1,6 @@
 -- What a core keeps through a request that may call the state store.
 use Rattle.std.proofs.Common.{◌≡◌, ◌≤◌, ℕ, Bool, true, false, cond, nat_lt, count_by, List, [], ◌∷◌, ◌++◌, Option, Some, None, refl, sym, ap, subst, ◌∙◌, le_refl, length, arith}
-use Rattle.std.specs.Option.{ForSome, is_some}
+use Rattle.std.specs.Option.{ForSome}
 use Rattle.std.proofs.lemmas.Bool.{both_ways}
 use Rattle.hall_lock.specs.declared.By.{By}
 use Rattle.mat_tree.specs.Parts.{Part}
@@ -32,7 +32,6 @@ use Rattle.core_devices.specs.Removals.{IsStoreNote}
 use Rattle.core_devices.specs.Told.{ToldDisk, ToldStore}
 use Rattle.mat_core.specs.Asks.{request_asks}
 use Rattle.mat_core.specs.Books.{StandFor}
-use Rattle.mat_core.specs.Calls.{MayCall}
 use Rattle.mat_core.specs.Cores.{AreDevices, IsCore, IsSeen, IsSound, Seen, each_stamp, point_in, seen_of}
 use Rattle.mat_core.specs.Enters.{is_free_leave}
 use Rattle.mat_core.specs.Keeping.{AsksSo, TellsStore, WasAsked, WasNotAsked, asked_entry, asks_store, moment_at}
@@ -43,7 +42,7 @@ use Rattle.mat_core.proofs.CallLemmas.{entered_facts, quiet_facts, time_raised}
 use Rattle.mat_core.proofs.CoreBegins.{store_note_apart}
 use Rattle.mat_core.proofs.CoreLemmas.{seen_is, seen_point}
 use Rattle.mat_core.proofs.EventLemmas.{seen_after, seen_again}
-use Rattle.mat_core.proofs.StoreCalls.{never_asked, never_wanted}
+use Rattle.mat_core.proofs.StoreCalls.{never_asked, never_wanted, nothing_due}
 
 -- ---- notes
 
@@ -232,8 +231,8 @@ module _ {D K : Type 0} (told : D → ToldDisk) (stored : K → ToldStore) (old 
       unsaid (reply.Fresh how) is = absurd (both_ways true is refl)
       unsaid reply.Stale is = absurd (both_ways true is refl)
 
-  pub kept_store : TellsStore said (stored old.keeper) (stored new.keeper)
-  kept_store = elim (is_entered said) as (λ b. is_entered said ≡ b → TellsStore said (stored old.keeper) (stored new.keeper)) [
+  pub kept_store : TellsStore the_point asking said (stored old.keeper) (stored new.keeper)
+  kept_store = elim (is_entered said) as (λ b. is_entered said ≡ b → TellsStore the_point asking said (stored old.keeper) (stored new.keeper)) [
     | true ↦ λ is. record {
       still = (so.entered is).still;
       faults = (so.entered is).faults;
@@ -270,11 +269,12 @@ no_leave (request.Clean cutoff mode) book is = refl
 no_leave request.Flush book is = refl
 
 -- what contracts see of the state store where it isn't called
-pub quiet_store : (said : Reply) (store now_store : ToldStore) → is_quiet said ≡ true → now_store ≡ store → TellsStore said store now_store
-quiet_store said store now_store quiet same = record {
+pub quiet_store : (one : Request) (point : Point) (said : Reply) (store now_store : ToldStore) → asks_store (request_asks one) ≡ false → is_quiet said ≡ true →
+    now_store ≡ store → TellsStore point (request_asks one) said store now_store
+quiet_store one point said store now_store none quiet same = record {
   still = λ leaves. ap (λ (s : ToldStore). s.rows) same;
   faults = let counts = ap (λ (s : ToldStore). s.faults) same in omega (arith, counts);
   note = subst (IsStoreNote store.faults now_store.faults) (sym (quiet_facts said quiet).note) tt;
-  called = λ enters. subst (λ noted. MayCall (is_some noted) store now_store) (sym (quiet_facts said quiet).note) (never_asked store now_store same);
+  called = λ enters. never_asked point (request_asks one) said store now_store (nothing_due one point none) (quiet_facts said quiet).note same;
   wanted = λ stays. never_wanted store now_store same;
 }

@@ -21,6 +21,7 @@ use Rattle.model_laws.proofs.KeptOrder.{store_ascends}
 use Rattle.mat_tree.specs.Trees.{ascends_by}
 use Rattle.debris_list.proofs.Order.{before_irrefl}
 use Rattle.path_trie.proofs.Lists.{filter_same}
+use Rattle.keep_port.specs.declared.row.RawRow.{RawRow}
 use Rattle.keep_port.specs.declared.row.Touch.{Touch}
 use Rattle.kept_book.specs.declared.mark.Mark.{Mark}
 use Rattle.kept_book.specs.Marks.{is_mark_at, is_other, is_reserved, mark_of, put_path, use_of}
@@ -356,14 +357,22 @@ marks_stored (row ∷ some) kept asc =
     ap (marks_with (map touch_of some)) (sym (put_in_step (kept_row row) kept asc))
     ∙ marks_stored some (put_kept (kept_row row) kept) (store_ascends (row ∷ []) kept asc)
 
--- where something is put or touched, some row is due
-pub some_due : (identity : ℕ) (marks : List Mark) (rows : List Row) (due : Due) → AreDue identity marks rows due → is_idle due.puts.items due.touches.items ≡ false →
-    nat_lt 0 (length (due_by marks rows)) ≡ true
-some_due identity marks rows due are some = by (due_by marks rows) refl
+-- something is put or touched exactly where some row is due
+touch_busy : (puts : List RawRow) (touch : Touch) (touches : List Touch) → is_idle puts (touch ∷ touches) ≡ false
+touch_busy [] touch touches = refl
+touch_busy (row ∷ puts) touch touches = refl
+
+pub busy_is : (identity : ℕ) (marks : List Mark) (rows : List Row) (due : Due) → AreDue identity marks rows due →
+    not (is_idle due.puts.items due.touches.items) ≡ nat_lt 0 (length (due_by marks rows))
+busy_is identity marks rows due are = ap₂ (λ ps ts. not (is_idle ps ts)) are.puts are.touches ∙ by (due_by marks rows)
   where
-    by : (dues : List Row) → due_by marks rows ≡ dues → nat_lt 0 (length dues) ≡ true
-    by [] none =
-        absurd (both_ways (is_idle due.puts.items due.touches.items) some
-        (ap₂ is_idle (are.puts ∙ ap (λ rs. map (raw_of identity) (filter (is_lacking_by marks) rs)) none)
-        (are.touches ∙ ap (λ rs. map touch_of (filter (is_there_by marks) rs)) none)))
-    by (row ∷ dues) is = lt-ltb 0 (length (row ∷ dues)) (omega arith)
+    by : (dues : List Row) →
+        not (is_idle (map (raw_of identity) (filter (is_lacking_by marks) dues)) (map touch_of (filter (is_there_by marks) dues))) ≡ nat_lt 0 (length dues)
+    by [] = refl
+    by (row ∷ dues) =
+        elim (is_there_by marks row) as
+        (λ b. not (is_idle (map (raw_of identity) (cond (not b) (row ∷ filter (is_lacking_by marks) dues) (filter (is_lacking_by marks) dues)))
+        (map touch_of (cond b (row ∷ filter (is_there_by marks) dues) (filter (is_there_by marks) dues)))) ≡ true) [
+          | true ↦ ap not (touch_busy (map (raw_of identity) (filter (is_lacking_by marks) dues)) (touch_of row) (map touch_of (filter (is_there_by marks) dues)))
+          | false ↦ refl
+        ] ∙ sym (lt-ltb 0 (length (row ∷ dues)) (omega arith))

@@ -1,6 +1,6 @@
 -- A flush: the rows that are due, their marks, and the point behind its entry.
 use Rattle.std.proofs.Common.{◌≡◌, ◌≤◌, ◌+◌, ℕ, Bool, true, false, not, ◌&&◌, cond, max, nat_lt, List, [], ◌∷◌, ◌++◌, map, filter, length, Contains, Option, Some, None, refl, sym, ap, ap₂, subst, ◌∙◌, arith, length-append}
-use Rattle.std.specs.Option.{ForSome, is_some, option_map}
+use Rattle.std.specs.Option.{ForSome, option_map}
 use Rattle.std.specs.Vec.{vec_capacity}
 use Rattle.std.proofs.lemmas.Bool.{both_ways, false_from_ne_true}
 use Rattle.std.proofs.lemmas.List.{length-map}
@@ -42,7 +42,7 @@ use Rattle.keep_port.specs.Rows.{put_all, touch_all}
 use Rattle.core_laws.specs.Stored.{IsReadable, IsStore, has_bytes, leaves_kept, raw_of, touch_of, wants_bytes}
 use Rattle.core_laws.proofs.StoreMoves.{entry_leaves, flush_store}
 use Rattle.core_laws.proofs.StoreSteps.{bytes_split, told_change}
-use Rattle.core_devices.specs.Removals.{IsStoreNote}
+use Rattle.core_devices.specs.Removals.{IsStoreCall, IsStoreNote}
 use Rattle.core_devices.specs.Told.{ToldStore}
 use Rattle.job_book.specs.Jobs.{jobs_of}
 use Rattle.row_book.specs.Stocks.{rows_of}
@@ -52,7 +52,7 @@ use Rattle.mat_core.specs.declared.flushing.Storing.{Storing}
 use Rattle.mat_core.specs.declared.flushing.Storing.TheVariants as storing
 use Rattle.mat_core.specs.declared.parts.Parts.{Parts}
 use Rattle.mat_core.specs.Begins.{IsKeptStill, IsStill}
-use Rattle.mat_core.specs.Calls.{MayCall, MayWant}
+use Rattle.mat_core.specs.Calls.{CallsAsDue, MayWant}
 use Rattle.mat_core.specs.Books.{AreWork, StandFor, book_in}
 use Rattle.mat_core.specs.Keeping.{AsksSo, WasAsked, asked_entry, moment_at}
 use Rattle.mat_core.specs.Replacing.{AreRuled}
@@ -60,7 +60,7 @@ use Rattle.mat_core.specs.Rooms.{HasReserves, IsReservedFor, spent_in}
 use Rattle.mat_core.proofs.BeginLemmas.{same_book}
 use Rattle.mat_core.proofs.ServeLemmas.{entries_alone, no_table, own_stamps, spent_same, work_stays}
 use Rattle.mat_core.proofs.UndoLemmas.{ready_same}
-use Rattle.mat_core.proofs.DueLemmas.{due_held, due_same, job_unused, marks_stored, others_left, put_same, some_due, touched_same}
+use Rattle.mat_core.proofs.DueLemmas.{busy_is, due_held, due_same, job_unused, marks_stored, others_left, put_same, touched_same}
 use Rattle.mat_core.proofs.StoreCalls.{wanted_call}
 
 -- ---- parts that a flush leaves
@@ -329,7 +329,7 @@ module _ {D K : Type 0} (point : Point) (by : By) (now : ℕ) (said : Reply) (ol
       filter (is_alone point.book.rows) (kept_asked asked.Flush said point.book.rows point.kept) ≡ filter (is_alone point.book.rows) point.kept →
       (ForSome store.rows (IsStore old.base.identity point.kept) → ForSome now_store.rows (IsStore old.base.identity (after point (entry_of point by now said)).kept)) →
       (leaves_kept said ≡ true → now_store.rows ≡ store.rows) → store.faults ≤ now_store.faults →
-      IsStoreNote store.faults now_store.faults (note_of said) → MayCall (is_some (note_of said)) store now_store →
+      IsStoreNote store.faults now_store.faults (note_of said) → CallsAsDue point asked.Flush said store now_store →
       WasAsked point by now asked.Flush said old new store now_store
   entry_asked store now_store served work marks alone rows still faults note called = record {
     same = record { base = entered.beside.base; lost = entered.beside.lost };
@@ -359,6 +359,10 @@ module _ {D K : Type 0} (point : Point) (by : By) (now : ℕ) (old new : Parts D
 
   due_is : due_by old.kept.marks (rows_of old.rows) ≡ filter (is_due point.kept) point.book.rows
   due_is = ap₂ due_by stands.kept rows_are ∙ due_same point.kept point.book.rows asc
+
+  -- something is stored exactly where some row is due
+  may_is : not (is_idle due_now.puts.items due_now.touches.items) ≡ may_fail asked.Flush point.book point.kept
+  may_is = busy_is old.base.identity old.kept.marks (rows_of old.rows) due_now are ∙ ap (λ (rs : List Row). nat_lt 0 (length rs)) due_is
 
   no_full : None ≡ full_asked old.base.limits point (moment_at point now) asked.Flush
   no_full = sym (flush_full old point (moment_at point now) stands roomy ∙ ap (λ b. cond {A = Option Limit} b (Some limit.History) None) room)
@@ -422,7 +426,7 @@ module _ {D K : Type 0} (point : Point) (by : By) (now : ℕ) (old new : Parts D
           (alone_stored point.book.rows (filter (is_due point.kept) point.book.rows) point.kept
           (λ row among. (filtered_contains (is_due point.kept) point.book.rows row among).0))
           flushed_rows (λ leaves. absurd (both_ways false refl leaves)) stored.faults tt
-          (record { made = not (is_idle due_now.puts.items due_now.touches.items); called = stored.called });
+          (subst (λ b. IsStoreCall b false false store now_store) may_is stored.called);
       unchanged = λ is. absurd (both_ways true is refl);
       full = λ not_want. no_full;
     }
@@ -435,8 +439,7 @@ module _ {D K : Type 0} (point : Point) (by : By) (now : ℕ) (old new : Parts D
     busy = false_from_ne_true (is_idle due_now.puts.items due_now.touches.items) (λ is. let wrong = none is in absurd cc)
 
     may : may_fail asked.Flush point.book point.kept ≡ true
-    may = ap (λ (rs : List Row). nat_lt 0 (length rs)) (sym due_is)
-        ∙ some_due old.base.identity old.kept.marks (rows_of old.rows) due_now are busy
+    may = sym may_is ∙ ap not busy
 
     is_fault : is_store_fault (reply.Fault note) ≡ true
     is_fault = ap (λ (n : FaultNote). Rattle.mat_model.specs.History.is_keeper n.device) stored.note.0
@@ -459,8 +462,7 @@ module _ {D K : Type 0} (point : Point) (by : By) (now : ℕ) (old new : Parts D
           subst (λ ks. ForSome now_store.rows (IsStore old.base.identity ks))
           (sym (entry_leaves point (entry_of point by now (reply.Fault note)) (ap (λ (s : Served). leaves_kept s.reply) failed_served)))
           (subst (λ o. ForSome o (IsStore old.base.identity point.kept)) (sym rows_stay) has))
-          (λ leaves. rows_stay) stored.faults stored.note
-          (record { made = not (is_idle due_now.puts.items due_now.touches.items); called = stored.called });
+          (λ leaves. rows_stay) stored.faults stored.note (subst (λ b. IsStoreCall b true false store now_store) may_is stored.called);
       unchanged = λ is. absurd (both_ways true is refl);
       full = λ not_want. no_full;
     }

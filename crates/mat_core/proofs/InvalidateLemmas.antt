@@ -1,6 +1,7 @@
 -- A path that is invalidated: what the model serves, the point behind its entry, and the room for it.
-use Rattle.std.proofs.Common.{◌≡◌, ◌≤◌, ◌+◌, ◌*◌, ℕ, max, nat_lt, true, false, cond, List, [], ◌∷◌, ◌++◌, map, filter, length, count_by, Contains, Option, Some, None, refl, sym, ap, ap₂, subst, ◌∙◌, le_refl, arith}
-use Rattle.std.specs.Option.{ForSome, is_some, option_map}
+use Rattle.std.proofs.Common.{◌≡◌, ◌≤◌, ◌+◌, ◌*◌, ◌&&◌, ℕ, max, nat_lt, Bool, true, false, cond, List, [], ◌∷◌, ◌++◌, map, filter, length, count_by, Contains, Option, Some, None, refl, sym, ap, ap₂, subst, ◌∙◌, le_refl, arith}
+use Rattle.std.specs.List.{list_any}
+use Rattle.std.specs.Option.{ForSome, option_map}
 use Rattle.std.specs.Vec.{vec_capacity}
 use Rattle.std.specs.declared.alloc.Global.{Global}
 use Rattle.std.specs.declared.vec.Vec.{Vec}
@@ -24,7 +25,7 @@ use Rattle.mat_model.specs.declared.requests.Asked.TheVariants as asked
 use Rattle.mat_model.specs.Books.{IsBook}
 use Rattle.mat_model.specs.Gate.{Served, is_live}
 use Rattle.mat_model.specs.History.{Point, after, answer_asked, next_number, stepped}
-use Rattle.mat_model.specs.Kept.{KeptRow, is_kept_clear, kept_asked, overlaps_kept}
+use Rattle.mat_model.specs.Kept.{KeptRow, is_kept_clear, kept_asked, may_fail, overlaps_kept}
 use Rattle.mat_model.specs.Legal.{IsRecordedAs, note_of}
 use Rattle.mat_model.specs.Room.{full_asked, is_alone, row_paths}
 use Rattle.mat_model.specs.Rows.{is_clear_of, overlaps_row}
@@ -40,7 +41,7 @@ use Rattle.core_laws.proofs.StoreMoves.{invalidate_store}
 use Rattle.core_laws.proofs.StoreSteps.{listed_dropped, told_change}
 use Rattle.keep_port.specs.Rows.{remove_all}
 use Rattle.keep_port.specs.declared.port.Keeper.{Ghosts as KeeperGhosts}
-use Rattle.core_devices.specs.Removals.{HasRemoved, IsStoreNote, are_some}
+use Rattle.core_devices.specs.Removals.{HasRemoved, IsStoreCall, IsStoreNote, are_some}
 use Rattle.core_devices.specs.declared.removing.Removal.{Removal}
 use Rattle.core_devices.specs.declared.removing.Removal.TheVariants as removal
 use Rattle.core_devices.specs.Told.{ToldStore, told_store}
@@ -53,7 +54,7 @@ use Rattle.kept_book.specs.Marks.{is_clear_mark, mark_of, overlaps_mark, path_of
 use Rattle.kept_book.proofs.LawLemmas.{clear_in_step}
 use Rattle.mat_core.specs.Beginning.{HaveOnlyRoom, has_no_row}
 use Rattle.mat_core.specs.Begins.{IsKeptStill, IsStill}
-use Rattle.mat_core.specs.Calls.{MayCall, MayWant}
+use Rattle.mat_core.specs.Calls.{CallsAsDue, MayWant}
 use Rattle.mat_core.specs.Books.{AreWork, IsPart, StandFor, book_in}
 use Rattle.mat_core.specs.Cores.{AreLimits}
 use Rattle.mat_core.specs.Falling.{is_unkept}
@@ -63,7 +64,7 @@ use Rattle.mat_core.specs.Replacing.{AreRuled}
 use Rattle.mat_core.specs.Rooms.{HasReserves, IsReservedFor, spent_in}
 use Rattle.mat_core.specs.Served.{is_entered}
 use Rattle.mat_core.specs.declared.parts.Parts.{Parts}
-use Rattle.mat_core.proofs.BeginGoals.{failed_still, number_is, some_called, some_overlap, wanted_still}
+use Rattle.mat_core.proofs.BeginGoals.{failed_still, number_is, some_called, overlap_is, wanted_still}
 use Rattle.mat_core.proofs.BeginLemmas.{alone_left, books_stand}
 use Rattle.mat_core.proofs.CallLemmas.{entered_facts, raised_twice}
 use Rattle.mat_core.proofs.RemoveLemmas.{paths_left, ready_left, removed_chosen, work_removed}
@@ -187,7 +188,7 @@ module _ {D K : Type 0} (gk : KeeperGhosts K) (by : By) (now command : ℕ) (pat
 
     pub calm_asked : IsKeptStill (told_store gk old.keeper) (told_store gk keeper) →
         IsStoreNote (gk.fault_count old.keeper) (gk.fault_count keeper) (note_of said) →
-        MayCall (is_some (note_of said)) (told_store gk old.keeper) (told_store gk keeper) →
+        CallsAsDue point (asked.Invalidate command path) said (told_store gk old.keeper) (told_store gk keeper) →
         WasAsked point by now (asked.Invalidate command path) said old calm_new (told_store gk old.keeper) (told_store gk keeper)
     calm_asked still note called = record {
       same = record { base = only.same.base; lost = only.same.lost };
@@ -396,7 +397,8 @@ module _ {D K : Type 0} (gk : KeeperGhosts K) (by : By) (now command : ℕ) (pat
     kept_is = ap (λ (s : Served). kept_asked (asked.Invalidate command path) s.reply s.book.rows point.kept) answered
 
     pub cleared_asked : (now_keeper : K) → gk.kept now_keeper ≡ option_map (λ rows. remove_all rows (gone_marks path old.kept.marks)) (gk.kept old.keeper) →
-        gk.fault_count old.keeper ≤ gk.fault_count now_keeper → MayCall false (told_store gk old.keeper) (told_store gk now_keeper) →
+        gk.fault_count old.keeper ≤ gk.fault_count now_keeper →
+        CallsAsDue point (asked.Invalidate command path) (reply.Invalid n) (told_store gk old.keeper) (told_store gk now_keeper) →
         WasAsked point by now (asked.Invalidate command path) (reply.Invalid n) old cleared_new (told_store gk old.keeper) (told_store gk now_keeper)
     cleared_asked now_keeper rows faults called = record {
       same = record { base = is.beside.base ∙ only.same.base; lost = is.beside.lost ∙ only.same.lost };
@@ -596,6 +598,14 @@ same_keeper gk old new same = record {
   faults = subst (λ k. gk.fault_count old ≤ gk.fault_count k) (sym same) (le_refl (gk.fault_count old));
 }
 
+and_false : (b : Bool) → (b && false) ≡ false
+and_false true = refl
+and_false false = refl
+
+and_true : (b : Bool) → (b && true) ≡ b
+and_true true = refl
+and_true false = refl
+
 module _ {D K : Type 0} (gk : KeeperGhosts K) (by : By) (now command : ℕ) (path : List (List ℕ)) (old roomy new : Parts D K) (keeper : K) (point : Point)
     (stands : StandFor old point) (rules : IsPoint point) (roomy_for : IsRoomy old.base.limits point) (had : HasReserves old)
     (only : HaveOnlyRoom old roomy) (place : spent_in old + 2 ≤ vec_capacity roomy.history)
@@ -615,9 +625,19 @@ module _ {D K : Type 0} (gk : KeeperGhosts K) (by : By) (now command : ℕ) (pat
       (calm_asked gk by now command path old roomy keeper point stands rules roomy_for had only place fits reply.NotLive dead_calm new.moment new.history
       entered.moment entered.history entered.capacity
       (answer_dead point (moment_at point now) command path (subst (λ (b : Book). is_live command b ≡ false) stands.book dead))
-      (same_keeper gk old.keeper keeper same) tt (never_asked (told_store gk old.keeper) (told_store gk keeper) (ap (told_store gk) same))))
+      (same_keeper gk old.keeper keeper same) tt
+      (never_asked point (asked.Invalidate command path) reply.NotLive (told_store gk old.keeper) (told_store gk keeper)
+      (ap (λ b. list_any (overlaps_kept path) point.kept && b) (subst (λ (b : Book). is_live command b ≡ false) stands.book dead)
+      ∙ and_false (list_any (overlaps_kept path) point.kept)) refl (ap (told_store gk) same))))
 
   module _ (live : is_live command (book_in old) ≡ true) (paths : List (List (List ℕ))) (are : paths ≡ gone_marks path old.kept.marks) where
+    -- some paths go exactly where the request has kept rows to remove
+    due_is : are_some paths ≡ may_fail (asked.Invalidate command path) point.book point.kept
+    due_is =
+        ap are_some (are ∙ ap (gone_marks path) stands.kept) ∙ overlap_is path point.kept
+        ∙ sym (ap (λ b. list_any (overlaps_kept path) point.kept && b) (subst (λ (b : Book). is_live command b ≡ true) stands.book live)
+        ∙ and_true (list_any (overlaps_kept path) point.kept))
+
     -- the state store failed
     pub failed_so : (note : FaultNote) (said : Removal) → said ≡ removal.Failed note → (are_some paths ≡ false → said ≡ removal.Done) →
         HasRemoved paths (removal.Failed note) (told_store gk roomy.keeper) (told_store gk keeper) →
@@ -625,8 +645,8 @@ module _ {D K : Type 0} (gk : KeeperGhosts K) (by : By) (now command : ℕ) (pat
         AsksSo point by now (asked.Invalidate command path) old new (told_store gk old.keeper) (told_store gk new.keeper) (reply.Fault note)
     failed_so note said failed none removed entered =
         let from_old = subst (λ k. HasRemoved paths (removal.Failed note) (told_store gk k) (told_store gk keeper)) only.keeper removed in
-        let some = some_overlap path point.kept
-        (subst (λ ps. are_some ps ≡ true) (are ∙ ap (gone_marks path) stands.kept) (some_called paths said note failed none)) in
+        let some = sym (overlap_is path point.kept)
+        ∙ subst (λ ps. are_some ps ≡ true) (are ∙ ap (gone_marks path) stands.kept) (some_called paths said note failed none) in
         entered_so by now (asked.Invalidate command path) (reply.Fault note) old new (told_store gk old.keeper) (told_store gk new.keeper) point refl
         (failed_calm note).recorded room_there
         (subst (λ p. WasAsked point by now (asked.Invalidate command path) (reply.Fault note) old p (told_store gk old.keeper) (told_store gk p.keeper))
@@ -636,7 +656,7 @@ module _ {D K : Type 0} (gk : KeeperGhosts K) (by : By) (now command : ℕ) (pat
         (answer_failed point (moment_at point now) command path note some (subst (λ (b : Book). is_live command b ≡ true) stands.book live)
         (ap (λ n. n.device) from_old.note.0))
         (failed_still paths note (told_store gk old.keeper) (told_store gk keeper) from_old) from_old.note
-        (record { made = are_some paths; called = from_old.called })))
+        (subst (λ b. IsStoreCall b true false (told_store gk old.keeper) (told_store gk keeper)) due_is from_old.called)))
 
     -- memory was wanting
     pub wanting_so : HasRemoved paths removal.NoMemory (told_store gk roomy.keeper) (told_store gk keeper) →
@@ -667,4 +687,4 @@ module _ {D K : Type 0} (gk : KeeperGhosts K) (by : By) (now command : ℕ) (pat
         (cleared_asked gk by now command path old roomy keeper point stands rules roomy_for had only place fits live done is new.moment n new.history
         entered.moment counted entered.history entered.capacity spare keeper
         (from_old.rows ∙ ap (λ ps. option_map (λ rows. remove_all rows ps) (gk.kept old.keeper)) are) from_old.faults
-        (record { made = are_some paths; called = from_old.called }))))
+        (subst (λ b. IsStoreCall b false false (told_store gk old.keeper) (told_store gk keeper)) due_is from_old.called))))

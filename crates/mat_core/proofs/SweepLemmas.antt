@@ -38,7 +38,7 @@ use Rattle.core_laws.proofs.StoreMoves.{clean_store}
 use Rattle.core_laws.proofs.StoreSteps.{gone_kept, told_change}
 use Rattle.keep_port.specs.Rows.{remove_all}
 use Rattle.keep_port.specs.declared.port.Keeper.{Ghosts as KeeperGhosts}
-use Rattle.core_devices.specs.Removals.{HasRemoved, are_some}
+use Rattle.core_devices.specs.Removals.{HasRemoved, IsStoreCall, are_some}
 use Rattle.core_devices.specs.declared.removing.Removal.{Removal}
 use Rattle.core_devices.specs.declared.removing.Removal.TheVariants as removal
 use Rattle.core_devices.specs.Told.{told_store}
@@ -70,7 +70,7 @@ use Rattle.mat_core.proofs.CleanGoals.{calm_asked, calmly, clean_room}
 use Rattle.mat_core.proofs.InvalidateLemmas.{entered_so, stand_beside, wanted_so}
 use Rattle.mat_core.proofs.RemoveLemmas.{marked_jobs, paths_left, ready_left, removed_chosen, work_removed}
 use Rattle.mat_core.proofs.UndoLemmas.{ready_same}
-use Rattle.mat_core.proofs.SweepLists.{among_dropped, mark_one, marked_each, marks_left, parts_marked, some_among}
+use Rattle.mat_core.proofs.SweepLists.{among_dropped, among_is, mark_one, marked_each, marks_left, parts_marked, some_among}
 use Rattle.mat_core.proofs.StoreCalls.{wanted_call}
 
 -- ---- what the model serves
@@ -294,6 +294,15 @@ module _ {D K : Type 0} (gk : KeeperGhosts K) (by : By) (now cutoff : ℕ) (all 
     paths_are : paths ≡ kept_among (map mark_of point.kept) (map gone_row (stale cutoff point.book))
     paths_are = are ∙ ap₂ kept_among stands.kept (ap (λ (b : Book). map gone_row (stale cutoff b)) stands.book)
 
+    -- some paths go exactly where the request has kept rows to remove
+    due_is : are_some paths ≡ may_fail request point.book point.kept
+    due_is =
+        ap are_some paths_are ∙ among_is (stale cutoff point.book) point.kept
+        ∙ (elim all as (λ b. list_any (is_kept_of (stale cutoff point.book)) point.kept ≡ may_fail (asked.Clean cutoff (mode_of b)) point.book point.kept) [
+          | true ↦ refl
+          | false ↦ refl
+        ])
+
     -- the state store failed
     pub unswept_so : (note : FaultNote) (said : Removal) → said ≡ removal.Failed note → (are_some paths ≡ false → said ≡ removal.Done) →
         HasRemoved paths (removal.Failed note) (told_store gk roomy.keeper) (told_store gk keeper) →
@@ -309,7 +318,7 @@ module _ {D K : Type 0} (gk : KeeperGhosts K) (by : By) (now cutoff : ℕ) (all 
         entered.history entered.capacity
         (answer_unswept all point (moment_at point now) cutoff note some (ap (λ n. n.device) from_old.note.0))
         (failed_still paths note (told_store gk old.keeper) (told_store gk keeper) from_old) from_old.note
-        (record { made = are_some paths; called = from_old.called })))
+        (subst (λ b. IsStoreCall b true false (told_store gk old.keeper) (told_store gk keeper)) due_is from_old.called)))
 
     -- memory was wanting
     pub unwanted_so : HasRemoved paths removal.NoMemory (told_store gk roomy.keeper) (told_store gk keeper) →
@@ -466,7 +475,7 @@ module _ {D K : Type 0} (gk : KeeperGhosts K) (by : By) (now cutoff : ℕ) (all 
         still = λ leaves. absurd (both_ways false refl leaves);
         faults = from_old.faults;
         note = tt;
-        called = record { made = are_some paths; called = from_old.called };
+        called = subst (λ b. IsStoreCall b false false (told_store gk old.keeper) (told_store gk keeper)) due_is from_old.called;
       }
 
       pub swept_so : AsksSo point by now request old new (told_store gk old.keeper) (told_store gk new.keeper) said

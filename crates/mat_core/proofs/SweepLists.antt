@@ -2,7 +2,7 @@
 use Rattle.std.proofs.Common.{◌≡◌, ◌≤◌, ◌+◌, ◌==◌, ℕ, Bool, true, false, not, ◌&&◌, ◌||◌, cond, List, [], ◌∷◌, ◌++◌, map, filter, find, length, count_by, Contains, Option, Some, None, inl, inr, refl, sym, ap, ap₂, subst, ◌∙◌, arith}
 use Rattle.std.specs.List.{list_any}
 use Rattle.std.specs.Option.{is_some, option_map}
-use Rattle.std.proofs.lemmas.Bool.{both_ways, eq-eqb, eqb-true, ne_eqb}
+use Rattle.std.proofs.lemmas.Bool.{both_ways, eq-eqb, eqb-true, false_from_ne_true, ne_eqb}
 use Rattle.std.proofs.lemmas.List.{length-map, length-reverse}
 use Rattle.std.proofs.lemmas.List.Folds.{list_any-append}
 use Rattle.std.proofs.lemmas.List.Sums.{count_by-le-length, length-filter}
@@ -19,7 +19,7 @@ use Rattle.mat_model.specs.Kept.{KeptRow, is_kept_of, is_listed, is_unlisted}
 use Rattle.mat_model.specs.Rows.{is_at_path}
 use Rattle.mat_model.specs.WorkState.{Debris, Job, WorkState, condemn, is_lent, is_stray, leaves_debris, stamp_of, without_removed}
 use Rattle.model_laws.specs.WorkRules.{IsLentBy, IsWork}
-use Rattle.model_laws.proofs.BooksLists.{contains_any}
+use Rattle.model_laws.proofs.BooksLists.{any_contains, contains_any}
 use Rattle.model_laws.proofs.ClaimLemmas.{leaves_clear_debris}
 use Rattle.core_laws.specs.Stored.{AreDropped, IsStore}
 use Rattle.keep_port.specs.declared.row.RawRow.{RawRow}
@@ -163,6 +163,30 @@ some_among rows kept is =
     first_of : (some : List Gone) → are_some (map gone_path some) ≡ true → (one : Gone) × Unit {0} × Contains some one
     first_of [] so = absurd (both_ways false refl so)
     first_of (one ∷ some) so = (one, tt, contains_first one some)
+
+-- a kept row is at the path of one of some rows just where its path is listed with theirs
+kept_listed : (rows : List Row) (one : KeptRow) → is_path_listed (map gone_path (map gone_row rows)) one.path ≡ is_kept_of rows one
+kept_listed [] one = refl
+kept_listed (row ∷ rows) one = ap (λ b. same_names row.path one.path || b) (kept_listed rows one)
+
+some_listed : (paths : List (List (List ℕ))) (path : List (List ℕ)) → is_path_listed paths path ≡ true → are_some paths ≡ true
+some_listed [] path is = absurd (both_ways false refl is)
+some_listed (one ∷ paths) path is = refl
+
+-- some go exactly where the state store has a row of one that is stale
+pub among_is : (rows : List Row) (kept : List KeptRow) →
+    are_some (kept_among (map mark_of kept) (map gone_row rows)) ≡ list_any (is_kept_of rows) kept
+among_is rows kept =
+    elim (list_any (is_kept_of rows) kept) as
+    (λ b. list_any (is_kept_of rows) kept ≡ b → are_some (kept_among (map mark_of kept) (map gone_row rows)) ≡ b) [
+      | true ↦ λ is.
+          let (one, among, at) = any_contains (is_kept_of rows) kept is in
+          some_listed (kept_among (map mark_of kept) (map gone_row rows)) one.path
+          (among_same (map mark_of kept) (map gone_row rows) (mark_of one) (contains_map mark_of kept one among) ∙ kept_listed rows one ∙ at)
+      | false ↦ λ is.
+          false_from_ne_true (are_some (kept_among (map mark_of kept) (map gone_row rows)))
+          (λ some. both_ways (list_any (is_kept_of rows) kept) is (some_among rows kept some))
+    ] refl
 
 -- ---- parts that are read
 

@@ -1,6 +1,6 @@
 -- A request that may call the state store: what it did, by its reply.
 use Rattle.std.specs.Prelude.{◌≡◌, ◌≤◌, ◌++◌, ◌∷◌, [], ℕ, max, Bool, true, false}
-use Rattle.std.specs.Option.{ForSome, is_some}
+use Rattle.std.specs.Option.{ForSome}
 use Rattle.hall_lock.specs.declared.By.{By}
 use Rattle.mat_model.specs.declared.answers.Reply.{Reply}
 use Rattle.mat_model.specs.declared.entries.Entry.{Entry}
@@ -17,7 +17,7 @@ use Rattle.core_devices.specs.Removals.{IsStoreNote}
 use Rattle.core_devices.specs.Told.{ToldStore}
 use Rattle.mat_core.specs.Begins.{IsKeptStill, IsSameCore, IsStill}
 use Rattle.mat_core.specs.Books.{StandFor}
-use Rattle.mat_core.specs.Calls.{MayCall, MayWant}
+use Rattle.mat_core.specs.Calls.{CallsAsDue, MayWant}
 use Rattle.mat_core.specs.Orders.{AreReady}
 use Rattle.mat_core.specs.Rooms.{HasReserves}
 use Rattle.mat_core.specs.Served.{full_of, is_entered, is_want}
@@ -55,7 +55,7 @@ pub record WasAsked {D K : Type 0} (point : Point) (by : By) (now : ℕ) (reques
   pub still : leaves_kept said ≡ true → now_store.rows ≡ store.rows
   pub faults : store.faults ≤ now_store.faults
   pub note : IsStoreNote store.faults now_store.faults (note_of said)
-  pub called : MayCall (is_some (note_of said)) store now_store
+  pub called : CallsAsDue point request said store now_store
 
 -- it wasn't entered: the parts stand for their point still, and the devices have what they had
 pub record WasNotAsked {D K : Type 0} (old new : Parts D K) (store now_store : ToldStore) : Type 0 where
@@ -75,10 +75,11 @@ pub record AsksSo {D K : Type 0} (point : Point) (by : By) (now : ℕ) (request 
   pub full : is_want said ≡ false → full_of said ≡ full_asked old.base.limits point (moment_at point now) request
 
 -- what contracts see of the state store after any request: it has what it had where the kept rows stay, its count hasn't fallen, and a note is of a call
--- between the counts; it was called once at most, and that call failed just where the reply has a note, and wanted memory only where nothing was entered
-pub record TellsStore (said : Reply) (store now_store : ToldStore) : Type 0 where
+-- between the counts; it was called once where the request had something to remove or to store, and else not; that call failed just where the reply has a note,
+-- and wanted memory only where nothing was entered
+pub record TellsStore (point : Point) (request : Asked) (said : Reply) (store now_store : ToldStore) : Type 0 where
   pub still : leaves_kept said ≡ true → now_store.rows ≡ store.rows
   pub faults : store.faults ≤ now_store.faults
   pub note : IsStoreNote store.faults now_store.faults (note_of said)
-  pub called : is_entered said ≡ true → MayCall (is_some (note_of said)) store now_store
+  pub called : is_entered said ≡ true → CallsAsDue point request said store now_store
   pub wanted : is_entered said ≡ false → MayWant store now_store

@@ -98,7 +98,7 @@ impl<D: Disk, K: Keeper> Core<D, K> {
         ensures history { self.new.history ≡ (if is_entered result then self.old.history ++ entry_of by (point_in self.new).book.now request result ∷ [] else self.old.history) }
         ensures disk { self.new.disk ≡ self.old.disk }
         ensures keeper { asks_store (request_asks request) ≡ false → self.new.keeper ≡ self.old.keeper }
-        ensures store { TellsStore result (told_store ⟦<K as Keeper>⟧ self.old.keeper) (told_store ⟦<K as Keeper>⟧ self.new.keeper) }
+        ensures store { TellsStore (point_in self.old) (request_asks request) result (told_store ⟦<K as Keeper>⟧ self.old.keeper) (told_store ⟦<K as Keeper>⟧ self.new.keeper) }
         ensures leave { is_free_leave (request_asks request) (point_in self.old).book ≡ true → is_want result ≡ false }
         ensures full { is_want result ≡ false → full_of result ≡ full_asked self.old.base.limits (point_in self.old) (max (point_in self.old).book.now now) (request_asks request) }
     {

@@ -67,7 +67,7 @@ returns-then-asks_store-clause-keeper g c asks_none = absurd (both_ways _ asks_n
 
 pub returns-then-asks_store-clause-store : goal.returns-then-asks_store-clause-store
 returns-then-asks_store-clause-store g c =
-    subst (λ s. TellsStore c.keep_asked.result (told_store g.K.Keeper s.keeper) (told_store g.K.Keeper c.keep_asked.new.self.keeper)) c.self.view_is
+    subst (λ s. TellsStore (point_in s) (request_asks c.args.request) c.keep_asked.result (told_store g.K.Keeper s.keeper) (told_store g.K.Keeper c.keep_asked.new.self.keeper)) c.self.view_is
     (kept_store (told_disk g.D.Disk) (told_store g.K.Keeper) c.self.inside.parts c.keep_asked.new.self c.args.by c.args.now (request_asks c.args.request)
     c.keep_asked.result c.self.invariant (c.requires.number ∙ ap (λ s. count_by (is_of c.args.by.caller) s.history) (sym c.self.view_is)) c.requires.asks
     c.requires.time
@@ -117,7 +117,7 @@ returns-clause-history g c =
 
 pub returns-clause-store : goal.returns-clause-store
 returns-clause-store g c =
-    quiet_store c.call.result _ _ c.call.ensures.quiet
+    quiet_store c.args.request _ c.call.result _ _ (sym c.asks_store.ensures ∙ c.if-asks_store.false) c.call.ensures.quiet
     (ap (told_store g.K.Keeper) (c.call.ensures.devices.keeper ∙ ap (λ s. s.keeper) c.self.view_is))
 
 pub returns-clause-full : goal.returns-clause-full
